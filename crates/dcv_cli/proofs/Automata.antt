@@ -1,25 +1,13 @@
 -- The report on an automaton is that on each set whose canonical automaton it is.
-use Rattle.std.proofs.Common.{ℕ, List, [], Result, Ok, Err, refl, sym, subst}
-use Rattle.std.specs.Prelude.{IfOk}
-use Rattle.dcv_language.specs.Language.{Language}
-use Rattle.dcv_language.specs.Laws.{VerdictOfSameBehaviours}
-use Rattle.dcv_language.specs.Verdict.{Verdict, IsVerdict}
+use Rattle.dcv_cli.proofs.Common.{ℕ, List, [], Result, Ok, Err, refl, sym, subst, IfOk, Language, VerdictOfSameBehaviours, Verdict}
+use Rattle.dcv_cli.proofs.Common.{IsVerdict, TableAcceptsAsTheStates, RawValue, raw_accepts, IsAutomatonOf, PrintedIsAutomaton}
+use Rattle.dcv_cli.proofs.Common.{FileSaysNode, FileSaysUnit, AutomatonOfSameBehaviours, Count, ArePrintableCounts, printed_file}
+use Rattle.dcv_cli.proofs.Common.{ReportValue, SaysOf, Kind, Check, Automaton, Lustre, C, All, IsFileOf, SaysNode, SaysUnit, SaysAutomaton}
+use Rattle.dcv_cli.proofs.Common.{Reports, Says}
 use Rattle.dcv_automaton_file.specs.File.{file_of}
-use Rattle.dcv_dfa.specs.Laws.{TableAcceptsAsTheStates}
-use Rattle.dcv_dfa.specs.Raw.{RawValue, raw_accepts}
-use Rattle.dcv_build.specs.Budget.{IsAutomatonOf}
 use Rattle.dcv_print.specs.Automaton.{IsAutomatonOf as IsPrintedOf}
-use Rattle.dcv_print.specs.Laws.{IsPrintable, PrintedIsAutomaton, FileSaysNode, FileSaysUnit, AutomatonOfSameBehaviours}
-use Rattle.dcv_language.specs.declared.count.Count.{Count}
-use Rattle.dcv_print.specs.Counts.{ArePrintableCounts}
-use Rattle.dcv_print.specs.Printed.{printed_file}
-use Rattle.dcv_print.specs.Report.{ReportValue, SpellsAutomaton, IsLustreObserver, IsCObserver, Says as SaysOf}
-use Rattle.dcv_language.specs.declared.kind.Kind.{Kind}
-use Rattle.dcv_language.specs.declared.kind.Kind.TheVariants.{Check, Automaton, Lustre, C, All}
-use Rattle.dcv_print.specs.Observers.{IsFileOf, SaysNode, SaysUnit}
-use Rattle.dcv_cli.specs.Automaton.{SaysAutomaton}
-use Rattle.dcv_cli.specs.Judged.{Reports}
-use Rattle.dcv_cli.specs.Report.{Says}
+use Rattle.dcv_print.specs.Laws.{IsPrintable}
+use Rattle.dcv_print.specs.Report.{SpellsAutomaton, IsLustreObserver, IsCObserver}
 use Rattle.dcv_cli.proofs.Budgets.{same_as_set}
 
 module _ (printed : PrintedIsAutomaton) (say_node : FileSaysNode) (say_unit : FileSaysUnit) (move : AutomatonOfSameBehaviours) (move_verdict : VerdictOfSameBehaviours) (accept : TableAcceptsAsTheStates)

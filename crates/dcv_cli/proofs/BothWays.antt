@@ -1,31 +1,13 @@
 -- Formula files of which each implies the other mean the same.
-use Rattle.std.proofs.Common.{◌≡◌, ℕ, List, length, Option, None, Some, refl, sym, ap, ◌∙◌, subst}
-use Rattle.std.specs.Prelude.{IsSomeAnd}
-use Rattle.std.proofs.lemmas.List.{length-map}
-use Rattle.dcv_word.specs.Behaviour.{Word}
-use Rattle.dcv_syntax.specs.Plain.{PlainFile}
-use Rattle.dcv_syntax.specs.declared.names.Name.{Name}
-use Rattle.dcv_logic.specs.Models.{models}
-use Rattle.dcv_explore.specs.declared.explorer.Limits.{Limits}
-use Rattle.dcv_implies.specs.Comparison.{IsIncluded}
+use Rattle.dcv_cli.proofs.Common.{◌≡◌, ℕ, List, length, Option, None, Some, refl, sym, ap, ◌∙◌, subst, IsSomeAnd, length-map, Word}
+use Rattle.dcv_cli.proofs.Common.{PlainFile, Name, models, Limits, IsIncluded, texts_of, SpellsOne, OverBudget, WithinBudget, limit_of}
+use Rattle.dcv_cli.proofs.Common.{IsCompared, Undeclared, Declared, OverProduct, WithinProduct, compared, status_of_least, IsFormulaFile}
+use Rattle.dcv_cli.proofs.Common.{OnText, Refused, Read, OnHeld, Outcome, refused, is_answer, Refusal, Formula, Budget, Product}
+use Rattle.dcv_cli.proofs.Common.{Declarations, Which, Only, First, Second, Valid, NotValid}
 use Rattle.dcv_implies.specs.Laws.{IncludedBothWays}
-use Rattle.dcv_print.specs.Printed.{texts_of}
-use Rattle.dcv_reader.specs.Spelling.{SpellsOne}
 use Rattle.dcv_cli.proofs.FormulaFiles.{one_file}
-use Rattle.dcv_cli.specs.Budget.{OverBudget, WithinBudget, limit_of}
-use Rattle.dcv_cli.specs.Comparison.{IsCompared, Undeclared, Declared, IsComparison, OverProduct, WithinProduct, compared}
-use Rattle.dcv_cli.specs.Status.{status_of_least}
-use Rattle.dcv_cli.specs.FormulaFile.{IsFormulaFile, OnText, Refused, Read}
-use Rattle.dcv_cli.specs.Held.{OnHeld}
+use Rattle.dcv_cli.specs.Comparison.{IsComparison}
 use Rattle.dcv_cli.specs.Laws.{Implied, ImpliesBothWays}
-use Rattle.dcv_cli.specs.Outcome.{Outcome, refused}
-use Rattle.dcv_cli.specs.Status.{is_answer}
-use Rattle.dcv_cli.specs.declared.refusal.Refusal.{Refusal}
-use Rattle.dcv_cli.specs.declared.refusal.Refusal.TheVariants.{Formula, Budget, Product}
-use Rattle.dcv_cli.specs.declared.faults.FormulaFault.TheVariants.{Declarations}
-use Rattle.dcv_cli.specs.declared.refused.Which.{Which}
-use Rattle.dcv_cli.specs.declared.refused.Which.TheVariants.{Only, First, Second}
-use Rattle.dcv_cli.specs.declared.status.Status.TheVariants.{Valid, NotValid}
 use Rattle.dcv_cli.proofs.EqualMeanings.{no_refusal_answers}
 
 -- what it is to be implied, of the files that the texts spell

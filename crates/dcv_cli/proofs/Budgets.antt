@@ -1,34 +1,22 @@
 -- What `build` answers of a core is what is right for the steps of its file, and the verdict of its automaton is that of its words.
-use Rattle.std.proofs.Common.{◌≡◌, ℕ, ◌<◌, ◌≤◌, Bool, List, length, map, Option, None, Some, Result, Ok, Err, sym, ap, ◌∙◌, subst}
-use Rattle.std.specs.Prelude.{IfOk, IfErr, OnOk, slice_get}
-use Rattle.std.specs.Option.{option_map}
-use Rattle.std.proofs.lemmas.Option.{slice_get-map, slice_get_within}
-use Rattle.dcv_language.specs.Language.{Language, HaveSameBehaviours}
+use Rattle.dcv_cli.proofs.Common.{◌≡◌, ℕ, ◌<◌, ◌≤◌, Bool, List, length, map, Option, None, Some, Result, Ok, Err, sym, ap, ◌∙◌, subst, IfOk}
+use Rattle.dcv_cli.proofs.Common.{IfErr, OnOk, slice_get, option_map, slice_get_within, Language, HaveSameBehaviours, PlainFile, models}
+use Rattle.dcv_cli.proofs.Common.{CoreTree, core_of_file, words_of, WordsAreModels, PlainStep, steps_of, TableAcceptsAsTheStates, RawValue}
+use Rattle.dcv_cli.proofs.Common.{IsRaw, raw_accepts, table_accepts, IsAuto, table_of_states, Limits, TooManyStates, TooManyNodes}
+use Rattle.dcv_cli.proofs.Common.{IsAutomatonOf, IsOver, IsWithinBudget, AreCounts, Excess, Over, Refusal, IsBuilt, steps_of_file, kind_of}
+use Rattle.dcv_cli.proofs.Common.{limit_of, NamesFirstOver, IsAtSomeStep, IsFaultOver}
+use Rattle.std.proofs.lemmas.Option.{slice_get-map}
 use Rattle.dcv_language.specs.Laws.{CanonicalForSameBehaviours}
-use Rattle.dcv_syntax.specs.Plain.{PlainFile}
-use Rattle.dcv_logic.specs.Models.{models}
-use Rattle.dcv_core.specs.Core.{CoreTree}
-use Rattle.dcv_scope.specs.CoreOf.{core_of_file}
-use Rattle.dcv_core.specs.Holds.{words_of}
-use Rattle.dcv_scope.specs.Laws.{WordsAreModels, HasNoBoundShift}
-use Rattle.dcv_core.specs.Steps.{PlainCore, PlainStep, CoreStep, without_core, steps_of}
-use Rattle.dcv_dfa.specs.Laws.{TableAcceptsAsTheStates}
-use Rattle.dcv_dfa.specs.Raw.{RawValue, IsRaw, raw_accepts}
-use Rattle.dcv_language.specs.Table.{table_accepts}
-use Rattle.dcv_dfa.specs.Auto.{IsAuto, count_of_nodes, table_of_states}
-use Rattle.dcv_explore.specs.declared.explorer.Limits.{Limits}
-use Rattle.dcv_explore.specs.Budget.{Kind, TooManyStates, TooManyNodes}
-use Rattle.dcv_build.specs.Budget.{IsAutomatonOf, IsRawOf, IsOver, IsWithinBudget}
-use Rattle.dcv_build.specs.Counts.{AreCounts}
+use Rattle.dcv_scope.specs.Laws.{HasNoBoundShift}
+use Rattle.dcv_core.specs.Steps.{PlainCore, CoreStep, without_core}
+use Rattle.dcv_dfa.specs.Auto.{count_of_nodes}
+use Rattle.dcv_explore.specs.Budget.{Kind}
+use Rattle.dcv_build.specs.Budget.{IsRawOf}
 use Rattle.dcv_build.specs.Given.{IsCoreOf, IsCore}
 use Rattle.dcv_build.specs.declared.builder.Built.{Built}
 use Rattle.dcv_build.specs.declared.faults.BuildFault.{BuildFault}
 use Rattle.dcv_build.specs.declared.faults.BuildFault.TheVariants.{States as OverStates, Nodes as OverNodes, Memory as NoMemory}
-use Rattle.dcv_cli.specs.declared.budget_line.Excess.{Excess}
-use Rattle.dcv_cli.specs.declared.budget_line.Over.{Over}
-use Rattle.dcv_cli.specs.declared.refusal.Refusal.{Refusal}
-use Rattle.dcv_cli.specs.Expanded.{IsBuilt}
-use Rattle.dcv_cli.specs.Budget.{steps_of_file, kind_of, limit_of, IsFirstOverIn, NamesFirstOver, IsAtSomeStep, IsFaultOver}
+use Rattle.dcv_cli.specs.Budget.{IsFirstOverIn}
 
 -- ---- steps of a core, with and without their trees
 

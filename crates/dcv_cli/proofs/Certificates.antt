@@ -1,25 +1,14 @@
 -- What is right where it is asked what the words of an automaton's text show.
-use Rattle.std.proofs.Common.{ℕ, ◌≤◌, List, [], length, Option, refl, ap}
-use Rattle.std.specs.Prelude.{IsTrue}
-use Rattle.std.specs.Bool.{OnTrue}
-use Rattle.dcv_io.specs.Disk.{Disk}
+use Rattle.dcv_cli.proofs.Common.{ℕ, ◌≤◌, List, length, Option, refl, IsTrue, OnTrue, Disk, AutomatonFile, Err, Answer, Minimal, Access}
+use Rattle.dcv_cli.proofs.Common.{Pair, IsRefusedAutomaton, HasNoForm, BreaksARule, OnAutomaton, status_of_answer, OnHeld, ForHeld}
+use Rattle.dcv_cli.proofs.Common.{IsHeldText, Outcome, IsExplained, most_automaton_bytes, status_of, is_answer, is_determined, Refusal}
+use Rattle.dcv_cli.proofs.Common.{Only}
 use Rattle.dcv_automaton_read.specs.Read.{IsFaultOf}
 use Rattle.dcv_automaton_read.specs.declared.faults.AutoFault.{AutoFault}
 use Rattle.dcv_automaton_read.specs.declared.faults.AutoFault.TheVariants.{Syntax, Table, Memory}
-use Rattle.dcv_automaton_text.specs.File.{AutomatonFile}
-use Rattle.std.proofs.Common.{Err}
-use Rattle.dcv_certify.specs.declared.answer.Answer.{Answer}
-use Rattle.dcv_certify.specs.declared.answer.Answer.TheVariants.{Minimal, Access, Pair}
-use Rattle.dcv_language.specs.VerdictText.{line}
-use Rattle.dcv_cli.specs.AutomatonFile.{IsRefusedAutomaton, HasNoForm, BreaksARule, OnAutomaton, Refused, Read}
-use Rattle.dcv_cli.specs.Certificate.{IsCertificate, IsCertifiedText, answer_words, status_of_answer}
-use Rattle.dcv_cli.specs.Held.{OnHeld, ForHeld, IsHeldText}
-use Rattle.dcv_cli.specs.Outcome.{Outcome, IsExplained}
-use Rattle.dcv_cli.specs.Refusal.{most_automaton_bytes, refusal_of_automaton, status_of}
-use Rattle.dcv_cli.specs.Status.{is_answer, is_determined}
-use Rattle.dcv_cli.specs.declared.refusal.Refusal.{Refusal}
-use Rattle.dcv_cli.specs.declared.refused.Which.TheVariants.{Only}
-use Rattle.dcv_cli.proofs.ThreeEnds.{explains_first, fulfils_first}
+use Rattle.dcv_cli.specs.AutomatonFile.{Refused}
+use Rattle.dcv_cli.specs.Refusal.{refusal_of_automaton}
+use Rattle.dcv_cli.proofs.ThreeEnds.{explains_first}
 
 -- a refusal of the reader is right
 pub explains_automaton : (text : List ℕ) (fault : AutoFault) → length text ≤ most_automaton_bytes → IsFaultOf {Whole = AutomatonFile} text (Err fault)
@@ -33,9 +22,6 @@ answers_end Minimal = refl
 answers_end (Access state) = refl
 answers_end (Pair first second) = refl
 
-abbrev certified : ℕ → Answer → Outcome
-certified states answer = record { status = status_of_answer answer; out = line (answer_words states answer); err = [] }
-
 module _ (told : Option Disk) (name : List ℕ) where
   -- a refusal of the text is right, whatever is right for its file
   pub explains_text : (RightFor : AutomatonFile → Outcome → Type 0) (refusal : Refusal)
@@ -43,17 +29,3 @@ module _ (told : Option Disk) (name : List ℕ) where
       → IsExplained (λ outcome. ForHeld told (λ held. OnHeld (held 0) name (λ text. OnAutomaton text RightFor) outcome)) Only refusal
   explains_text RightFor refusal refused_so =
       explains_first told name (λ held text. OnAutomaton text RightFor) Only refusal (λ text. IsRefusedAutomaton text refusal) (λ held text is. Refused refusal is refl) refused_so
-
-  pub fulfils_certificate : (text : List ℕ) (states : ℕ) (answer : Answer) → IsHeldText told name text → IsCertifiedText text states answer
-      → ForHeld told (λ held. OnHeld (held 0) name (λ text. OnAutomaton text IsCertificate) (certified states answer))
-  fulfils_certificate text states answer there is =
-      fulfils_first told name text (λ held text. OnAutomaton text IsCertificate) (certified states answer) there
-      (λ held. Read is.file is.spelled (record {
-        answer = answer;
-        is = is.certified;
-        fewest = is.fewest;
-        reached = is.reached;
-        status = refl;
-        says = ap (λ count. line (answer_words count answer)) is.count;
-        no_message = refl;
-      }))

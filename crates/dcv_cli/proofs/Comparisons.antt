@@ -1,52 +1,27 @@
 -- What is right where two formula files are compared.
-use Rattle.std.proofs.Common.{◌≡◌, ◌≢◌, ℕ, Bool, true, false, List, [], ◌∷◌, length, Option, None, Some, refl, sym, ap, ◌∙◌, subst, codes}
-use Rattle.std.specs.Prelude.{IsTrue, ◌↔◌, ◌&&◌, not, is_some}
-use Rattle.std.specs.Str.{bytes_eq}
-use Rattle.std.proofs.lemmas.Slice.Eq.{bytes_eq-Decides}
-use Rattle.std.proofs.lemmas.List.{length-map}
-use mathlib.Core.Bool.{true≢false}
-use Rattle.dcv_io.specs.Asked.{Asks}
-use Rattle.dcv_io.specs.Disk.{Disk, held_of}
-use Rattle.dcv_io.proofs.Asking.{asks_in_turn}
-use Rattle.dcv_io.specs.Putting.{Put, Puts}
-use Rattle.dcv_io.proofs.Putting.{puts_both}
-use Rattle.dcv_word.specs.Behaviour.{Word}
+use Rattle.dcv_cli.proofs.Common.{◌≡◌, ◌≢◌, ℕ, Bool, true, false, List, [], ◌∷◌, length, Option, None, Some, refl, sym, ap, ◌∙◌, subst}
+use Rattle.dcv_cli.proofs.Common.{codes, IsTrue, ◌↔◌, not, is_some, bytes_eq, bytes_eq-Decides, length-map, true≢false, Asks, Disk, held_of}
+use Rattle.dcv_cli.proofs.Common.{asks_in_turn, Puts, puts_both, Word, PlainFile, Name, models, line, Language, IsLeastOf, TooManyStates}
+use Rattle.dcv_cli.proofs.Common.{TooManyNodes, Limits, IsAutomatonOf, IsAuto, RawValue, raw_accepts, difference, letters_of, IsIncluded}
+use Rattle.dcv_cli.proofs.Common.{TooMany, Least, NoneWhereIncluded, texts_of, OverBudget, WithinBudget, NamesFirstOver, steps_of_file}
+use Rattle.dcv_cli.proofs.Common.{comparison_text, compared, have_same_texts, OverProduct, WithinProduct, IsCompared, Undeclared, Declared}
+use Rattle.dcv_cli.proofs.Common.{IsBuilt, IsFormulaFile, OnText, Refused, Read as ReadFile, Texts, OnHeld, ForHeld, IsHeldText, Fulfils}
+use Rattle.dcv_cli.proofs.Common.{FulfilsOver, Implies, OnTrue, IsSomeAnd, Outcome, IsExplained, refused, Outside, LeavesFor, is_answer}
+use Rattle.dcv_cli.proofs.Common.{status_of_least, States, Nodes, Refusal, Formula, Budget, Product, Memory, Declarations, Which, Only}
+use Rattle.dcv_cli.proofs.Common.{First, Second}
+use Rattle.std.specs.Prelude.{◌&&◌}
+use Rattle.dcv_io.specs.Putting.{Put}
 use Rattle.dcv_word.specs.Word.{WordValue}
-use Rattle.dcv_syntax.specs.Plain.{PlainFile}
-use Rattle.dcv_syntax.specs.declared.names.Name.{Name}
-use Rattle.dcv_logic.specs.Models.{models}
-use Rattle.dcv_language.specs.VerdictText.{line, shown}
-use Rattle.dcv_language.specs.Language.{Language}
-use Rattle.dcv_language.specs.Verdict.{IsLeastOf}
-use Rattle.dcv_explore.specs.Budget.{TooManyStates, TooManyNodes}
-use Rattle.dcv_explore.specs.declared.explorer.Limits.{Limits}
-use Rattle.dcv_build.specs.Budget.{IsAutomatonOf}
-use Rattle.dcv_dfa.specs.Auto.{IsAuto}
-use Rattle.dcv_dfa.specs.Raw.{RawValue, raw_accepts}
-use Rattle.dcv_implies.specs.Comparison.{difference, letters_of, IsIncluded, IsProductWithin, IsProductOver, Answer, TooMany, Least, IsAnswer}
-use Rattle.dcv_implies.specs.Laws.{AnswerOfAutomata, NoneWhereIncluded}
+use Rattle.dcv_language.specs.VerdictText.{shown}
+use Rattle.dcv_implies.specs.Comparison.{IsProductWithin, IsProductOver, Answer, IsAnswer}
+use Rattle.dcv_implies.specs.Laws.{AnswerOfAutomata}
 use Rattle.dcv_implies.specs.declared.faults.OutsideFault.{OutsideFault}
 use Rattle.dcv_implies.specs.declared.faults.OutsideFault.TheVariants as outside
-use Rattle.dcv_print.specs.Printed.{texts_of}
-use Rattle.dcv_cli.specs.Budget.{OverBudget, WithinBudget, NamesFirstOver, steps_of_file}
-use Rattle.dcv_cli.specs.Comparison.{comparison_text, compared, have_same_texts, OverProduct, WithinProduct, IsCompared, Undeclared, Declared, FulfilsSecond, LeavesComparison, OfFirst, OfSecond, LeavesSecond}
-use Rattle.dcv_cli.specs.Expanded.{IsBuilt}
-use Rattle.dcv_cli.specs.FormulaFile.{IsFormulaFile, OnText, Read as ReadFile}
-use Rattle.dcv_cli.specs.Held.{Texts, OnHeld, ForHeld, IsHeldText}
-use Rattle.dcv_cli.specs.Right.{Fulfils, FulfilsOver}
-use Rattle.dcv_command.specs.Request.{Implies}
-use Rattle.dcv_cli.proofs.TwoFiles.{StepsTo, from, later_held}
-use Rattle.dcv_cli.specs.Outcome.{Outcome, IsExplained, refused}
-use Rattle.dcv_cli.specs.Outside.{Outside}
-use Rattle.dcv_cli.specs.Performed.{LeavesFor}
-use Rattle.dcv_cli.specs.Refusal.{marked, is_of_text, refusal_of_outside}
-use Rattle.dcv_cli.specs.Status.{is_answer, status_of_least}
-use Rattle.dcv_cli.specs.declared.budget_line.Excess.TheVariants.{States, Nodes}
-use Rattle.dcv_cli.specs.declared.refusal.Refusal.{Refusal}
-use Rattle.dcv_cli.specs.declared.refusal.Refusal.TheVariants.{Open, Read, Formula, Automaton, Observer, Trace, Budget, Product, Write, Memory}
-use Rattle.dcv_cli.specs.declared.faults.FormulaFault.TheVariants.{Declarations}
-use Rattle.dcv_cli.specs.declared.refused.Which.{Which}
-use Rattle.dcv_cli.specs.declared.refused.Which.TheVariants.{Only, First, Second}
+use Rattle.dcv_cli.specs.Comparison.{LeavesComparison, OfFirst, OfSecond}
+use Rattle.dcv_cli.proofs.ThreeEnds.{for_any, for_text}
+use Rattle.dcv_cli.proofs.TwoFiles.{later_held}
+use Rattle.dcv_cli.specs.Performed.{LeavesOne}
+use Rattle.dcv_cli.specs.Refusal.{refusal_of_outside}
 
 -- ---- what is written
 
@@ -64,22 +39,6 @@ heads_same name other names others e = cc
 
 tails_same : (name other : List ℕ) (names others : List (List ℕ)) → (name ∷ names) ≡ (other ∷ others) → names ≡ others
 tails_same name other names others e = cc
-
--- ---- marks
-
--- a refusal that is marked by its file is as it would be, where it is determined
-pub marked_explains : (Right : Outcome → Type 0) (which : Which) (refusal : Refusal) → IsExplained Right which refusal
-    → IsExplained Right (marked which refusal).which (marked which refusal).refusal
-marked_explains Right which Open is = is
-marked_explains Right which Read is = is
-marked_explains Right which (Formula fault) is = is
-marked_explains Right which (Automaton fault) is = is
-marked_explains Right which (Observer fault) is = is
-marked_explains Right which (Trace fault) is = is
-marked_explains Right which (Budget over) is = is
-marked_explains Right which (Product excess limit) is = is
-marked_explains Right which Write is = is
-marked_explains Right which Memory is = is
 
 -- ---- inclusion
 
@@ -189,53 +148,45 @@ pub count_same : (names others : List Name) → texts_of names ≡ texts_of othe
 count_same names others same =
     sym (length-map names (λ (name : Name). name.text)) ∙ ap length same ∙ length-map others (λ (name : Name). name.text)
 
-pub marked_own : (which : Which) (refusal : Refusal) → IsTrue (is_of_text refusal) → IsTrue (is_of_text (marked which refusal).refusal)
-marked_own which Open own = own
-marked_own which Read own = own
-marked_own which (Formula fault) own = own
-marked_own which (Automaton fault) own = own
-marked_own which (Observer fault) own = own
-marked_own which (Trace fault) own = own
-marked_own which (Budget over) own = own
-marked_own which (Product excess limit) own = own
-marked_own which Write own = own
-marked_own which Memory own = own
+-- what is right where it is determined, is right for each
+pub on_true_each : (b : Bool) {X : Type 0} (P Q : X → Type 0) → ((x : X) → P x → OnTrue b (Q x)) → OnTrue b ((x : X) → P x → Q x)
+on_true_each true P Q each = each
+on_true_each false P Q each = tt
+
+on_held : (text : Option (List ℕ)) {A B : List ℕ → Type 0} → ((text : List ℕ) → A text → B text) → IsSomeAnd text A → IsSomeAnd text B
+on_held None from on = absurd on
+on_held (Some text) from on = from text on
+
+on_text : {text : List ℕ} {which : Which} {A B : PlainFile → Outcome → Type 0} {outcome : Outcome} → ((file : PlainFile) → A file outcome → B file outcome)
+    → OnText text which A outcome → OnText text which B outcome
+on_text from (Refused refusal is e) = Refused refusal is e
+on_text from (ReadFile file is right) = ReadFile file is (from file right)
 
 -- what is right for the second file, after the first, is right for both
 pub fulfils_both : (told told' : Option Disk) (first second text : List ℕ) (limits : Limits) (one : PlainFile) (outcome : Outcome) → held_of told' ≡ held_of told
-    → IsHeldText told first text → IsFormulaFile text one → FulfilsSecond limits one second told' outcome → FulfilsOver (Implies first second limits) told outcome
-fulfils_both told told' first second text limits one outcome same there formula right =
-    later_held told told' first text (λ held. OnHeld (held 0) second (λ text. OnText text Second (IsCompared limits one)) outcome)
+    → IsHeldText told first text → IsFormulaFile text one → (Right : PlainFile → Outcome → Type 0)
+    → ((file : PlainFile) (outcome : Outcome) → Right file outcome → IsCompared limits one file outcome)
+    → ForHeld told' (λ held. OnHeld (held 0) second (λ text. OnText text Second Right) outcome) → FulfilsOver (Implies first second limits) told outcome
+fulfils_both told told' first second text limits one outcome same there formula Right from right =
+    later_held told told' first text (λ held. OnHeld (held 0) second (λ text. OnText text Second Right) outcome)
     (λ held. Fulfils (Implies first second limits) held outcome) same there moves right
   where
-    moves : (held late : Texts) → held 0 first ≡ Some text → held 1 ≡ late 0
-        → OnHeld (late 0) second (λ text. OnText text Second (IsCompared limits one)) outcome → Fulfils (Implies first second limits) held outcome
+    moves : (held late : Texts) → held 0 first ≡ Some text → held 1 ≡ late 0 → OnHeld (late 0) second (λ text. OnText text Second Right) outcome
+        → Fulfils (Implies first second limits) held outcome
     moves held late there same right =
-        rw there (ReadFile one formula (subst (λ held. OnHeld held second (λ text. OnText text Second (IsCompared limits one)) outcome) (sym same) right))
+        let second_right = on_held (late 0 second) (λ text. on_text (λ file. from file outcome)) right in
+        rw there (ReadFile one formula (subst (λ held. OnHeld held second (λ text. OnText text Second (IsCompared limits one)) outcome) (sym same) second_right))
 
 -- nothing was written where the second file failed, after a first without a fault
-pub leaves_both : (first second text : List ℕ) (limits : Limits) (file : PlainFile) (before mid after : Outside) (bytes : List ℕ) → StepsTo first before mid
-    → IsHeldText before.told first text → IsFormulaFile text file → LeavesSecond second (from before mid) after bytes → LeavesFor (Implies first second limits) before after bytes
-leaves_both first second text limits file before mid after bytes steps there is left = by before.told there where
-  both : Asks (first ∷ second ∷ []) before.asked after.asked
-  both = asks_in_turn before.asked mid.asked after.asked (first ∷ []) (second ∷ []) steps.asked left.asked
-
-  by : (told : Option Disk) → IsHeldText told first text → ForHeld told (λ held. LeavesComparison first second held before after bytes)
-  by None there = record {
-    held = λ time name. Some text;
-    same = tt;
-    holds = OfSecond both (record { text = text; there = refl; file = file; is = is }) left.none;
-  }
-  by (Some disk) there = record {
-    held = λ time. disk.held;
-    same = λ time. refl;
-    holds = OfSecond both (record { text = text; there = there; file = file; is = is }) left.none;
-  }
+pub leaves_both : (first second text : List ℕ) (limits : Limits) (file : PlainFile) (before from after : Outside) (bytes : List ℕ) → Asks (first ∷ []) before.asked from.asked
+    → IsHeldText before.told first text → IsFormulaFile text file → LeavesOne second from after bytes → LeavesFor (Implies first second limits) before after bytes
+leaves_both first second text limits file before from after bytes asked there is left =
+    let both = asks_in_turn before.asked from.asked after.asked (first ∷ []) (second ∷ []) asked left.holds.asked in
+    for_text before.told first text (λ held. LeavesComparison first second held before after bytes) there
+    (λ held here. OfSecond both (record { text = text; there = here; file = file; is = is }) left.holds.none)
 
 -- nor where the first did
 pub leaves_first : (first second : List ℕ) (limits : Limits) (before after : Outside) → Asks (first ∷ []) before.asked after.asked
     → LeavesFor (Implies first second limits) before after []
-leaves_first first second limits before after asked = by before.told where
-  by : (told : Option Disk) → ForHeld told (λ held. LeavesComparison first second held before after [])
-  by None = record { held = λ time name. None; same = tt; holds = OfFirst asked refl }
-  by (Some disk) = record { held = λ time. disk.held; same = λ time. refl; holds = OfFirst asked refl }
+leaves_first first second limits before after asked =
+    for_any before.told (λ held. LeavesComparison first second held before after []) (λ held. OfFirst asked refl)

@@ -1,22 +1,13 @@
 -- The text of a version is made of slices of the text, and what is written of it is right for the request.
-use Rattle.std.proofs.Common.{◌≡◌, ◌≢◌, ℕ, ◌+◌, ◌-◌, ◌≤◌, List, [], ◌++◌, Option, None, Some, length, take, drop, refl, sym, ap, ◌∙◌, arith}
-use Rattle.std.specs.Prelude.{codes, slice_range}
-use Rattle.std.specs.List.{flat_map}
+use Rattle.dcv_cli.proofs.Common.{◌≡◌, ◌≢◌, ℕ, ◌+◌, ◌-◌, ◌≤◌, List, ◌++◌, Option, None, Some, length, take, drop, refl, sym, ap, ◌∙◌, arith}
+use Rattle.dcv_cli.proofs.Common.{codes, flat_map, StepPart, AutomatonFile, HasForm, step_part, end_lines, spelled_line, first_version}
+use Rattle.dcv_cli.proofs.Common.{second_version}
+use Rattle.std.specs.Prelude.{slice_range}
 use Rattle.std.proofs.lemmas.List.{drop-take, length-append}
-use Rattle.dcv_io.specs.Disk.{Disk}
-use Rattle.dcv_automaton_text.specs.File.{StepPart, AutomatonFile}
-use Rattle.dcv_automaton_text.specs.Form.{HasForm}
 use Rattle.dcv_automaton_text.specs.Laws.{said_in, TextsOfVersions}
-use Rattle.dcv_automaton_text.specs.Spelled.{step_part, end_lines, front_lines, spelled_line, spelled, spelled_front}
-use Rattle.dcv_automaton_text.specs.Versions.{version_by, version_of, first_version, second_version}
+use Rattle.dcv_automaton_text.specs.Spelled.{front_lines, spelled, spelled_front}
+use Rattle.dcv_automaton_text.specs.Versions.{version_by, version_of}
 use Rattle.dcv_automaton_text.proofs.Versions.{front_and_rest}
-use Rattle.dcv_command.specs.declared.words.Version.{Version}
-use Rattle.dcv_cli.specs.AutomatonFile.{OnAutomaton, Read}
-use Rattle.dcv_cli.specs.Conversion.{IsConverted, IsConvertedText}
-use Rattle.dcv_cli.specs.Held.{OnHeld, ForHeld, IsHeldText}
-use Rattle.dcv_cli.specs.Outcome.{Outcome}
-use Rattle.dcv_cli.specs.declared.status.Status.TheVariants.{Done}
-use Rattle.dcv_cli.proofs.ThreeEnds.{fulfils_first}
 
 -- ---- where the step part begins
 
@@ -56,15 +47,3 @@ module _ (texts : TextsOfVersions) (text : List ℕ) (file : AutomatonFile) (for
   to_second first =
       ap (λ said. codes "automaton 2" ++ (said ++ codes "steps 0\nend\n")) (said_is text file at is)
       ∙ sym ((texts text file form).second (has_none file.steps first))
-
--- ---- for the request
-
--- what such a run ends with
-abbrev pub converted : List ℕ → Outcome
-converted written = record { status = Done; out = written; err = [] }
-
-pub fulfils_conversion : (told : Option Disk) (name text : List ℕ) (to : Version) (written : List ℕ) → IsHeldText told name text → IsConvertedText text to written
-    → ForHeld told (λ held. OnHeld (held 0) name (λ text. OnAutomaton text (IsConverted to)) (converted written))
-fulfils_conversion told name text to written there is =
-    fulfils_first told name text (λ held text. OnAutomaton text (IsConverted to)) (converted written) there
-    (λ held. Read is.file is.is (record { status = refl; says = is.says; no_message = refl }))

@@ -1,18 +1,13 @@
 -- A text of version 1 that is converted to version 2 and back is as it was; and one outcome at most is right where a text is converted.
-use Rattle.std.proofs.Common.{◌≡◌, ℕ, List, ◌++◌, Option, None, Some, refl, sym, ap, ◌∙◌, subst, inl, arith}
-use Rattle.std.specs.Prelude.{IsSomeAnd, codes, slice_index_or}
-use Rattle.dcv_automaton_text.specs.File.{StepPart, AutomatonFile}
-use Rattle.dcv_automaton_text.specs.Form.{HasForm}
-use Rattle.dcv_automaton_text.specs.Laws.{OneFile, VersionsStandForTheSame, SecondAndBackIsTheText}
+use Rattle.dcv_cli.proofs.Common.{◌≡◌, ℕ, List, ◌++◌, Option, None, Some, refl, sym, ap, ◌∙◌, subst, inl, arith, IsSomeAnd, codes, StepPart}
+use Rattle.dcv_cli.proofs.Common.{AutomatonFile, HasForm, OneFile, first_version, second_version, Version, IsAutomatonText, OnAutomaton}
+use Rattle.dcv_cli.proofs.Common.{IsConverted, as_version, Outcome, Agrees, Done, StatusAutomaton}
+use Rattle.std.specs.Prelude.{slice_index_or}
+use Rattle.dcv_automaton_text.specs.Laws.{VersionsStandForTheSame, SecondAndBackIsTheText}
 use Rattle.dcv_automaton_text.specs.Spelled.{spelled, lines_of}
-use Rattle.dcv_automaton_text.specs.Versions.{first_version, second_version}
-use Rattle.dcv_command.specs.declared.words.Version.{Version}
 use Rattle.dcv_command.specs.declared.words.Version.TheVariants.{One, Two}
-use Rattle.dcv_cli.specs.AutomatonFile.{IsAutomatonText, OnAutomaton, Refused, Read}
-use Rattle.dcv_cli.specs.Conversion.{IsConverted, as_version}
+use Rattle.dcv_cli.specs.AutomatonFile.{Refused, Read}
 use Rattle.dcv_cli.specs.Laws.{ConvertedBackIsTheText, IsConversionOf}
-use Rattle.dcv_cli.specs.Outcome.{Outcome, Agrees}
-use Rattle.dcv_cli.specs.declared.status.Status.TheVariants.{Done, Automaton as StatusAutomaton}
 use Rattle.dcv_cli.proofs.OneCertificate.{one_on_automaton, refuses_as_automaton}
 
 -- ---- one outcome

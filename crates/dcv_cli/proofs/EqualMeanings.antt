@@ -1,45 +1,17 @@
 -- Files that mean the same have the same verdict, the same observers, and the same automaton up to its last access word.
-use Rattle.std.proofs.Common.{◌≡◌, ℕ, List, length, Option, sym, ap, ◌∙◌, subst}
-use Rattle.std.specs.Prelude.{IsTrue, IsSomeAnd}
-use Rattle.std.proofs.lemmas.List.{length-map}
-use mathlib.Core.Bool.{true≢false}
-use Rattle.dcv_language.specs.Laws.{OneVerdict, VerdictOfSameBehaviours}
-use Rattle.dcv_language.specs.Verdict.{IsVerdict}
-use Rattle.dcv_logic.specs.Models.{models}
-use Rattle.dcv_print.specs.Laws.{OneAutomaton, AutomatonOfSameBehaviours, OneFile, FileOfSameBehaviours, FileSaysNode, FileSaysUnit}
-use Rattle.dcv_language.specs.declared.kind.Kind.{Kind}
-use Rattle.dcv_print.specs.Printed.{texts_of}
-use Rattle.dcv_reader.specs.Spelling.{SpellsOne}
-use Rattle.dcv_syntax.specs.declared.names.Name.{Name}
-use Rattle.dcv_syntax.specs.Plain.{PlainFile}
-use Rattle.dcv_explore.specs.declared.explorer.Limits.{Limits}
-use Rattle.dcv_cli.specs.declared.refusal.Refusal.{Refusal}
-use Rattle.dcv_cli.specs.declared.refusal.Refusal.TheVariants.{Open, Read as ReadRefusal, Formula, Automaton, Observer, Trace, Budget, Product, Write, Memory}
-use Rattle.dcv_cli.specs.declared.status.Status.{Status}
-use Rattle.dcv_cli.specs.declared.status.Status.TheVariants.{Budget as StatusBudget}
-use Rattle.dcv_cli.specs.Budget.{IsBudgeted, OverBudget, WithinBudget}
-use Rattle.dcv_cli.specs.FormulaFile.{IsFormulaFile, OnText, Refused, Read}
+use Rattle.dcv_cli.proofs.Common.{◌≡◌, ℕ, List, length, Option, sym, ap, ◌∙◌, subst, IsTrue, IsSomeAnd, length-map, true≢false, OneVerdict}
+use Rattle.dcv_cli.proofs.Common.{VerdictOfSameBehaviours, IsVerdict, models, OneAutomaton, AutomatonOfSameBehaviours, FileOfSameBehaviours}
+use Rattle.dcv_cli.proofs.Common.{FileSaysNode, FileSaysUnit, Kind, texts_of, SpellsOne, Name, PlainFile, Limits, Refusal, Open, Budget}
+use Rattle.dcv_cli.proofs.Common.{Status, StatusBudget, IsBudgeted, OverBudget, WithinBudget, IsFormulaFile, OnText, Refused, Read, Texts}
+use Rattle.dcv_cli.proofs.Common.{Outcome, status_of, Only, Says, IsReport, is_answer, status_of_verdict}
+use Rattle.dcv_print.specs.Laws.{OneFile}
 use Rattle.dcv_cli.specs.Laws.{IsAnswer, EqualMeanings}
-use Rattle.dcv_cli.specs.Held.{Texts}
-use Rattle.dcv_cli.specs.Outcome.{Outcome}
-use Rattle.dcv_cli.specs.Refusal.{status_of}
-use Rattle.dcv_cli.specs.declared.refused.Which.TheVariants.{Only}
-use Rattle.dcv_cli.specs.Report.{Says, IsReport}
-use Rattle.dcv_cli.specs.Status.{is_answer, status_of_verdict}
 use Rattle.dcv_cli.proofs.Texts.{one_meaning, one_other_text, says_of_same}
 
 -- no refusal answers
 pub no_refusal_answers : (refusal : Refusal) → IsTrue (is_answer (status_of refusal)) → ⊥
 no_refusal_answers Open is = true≢false (sym is)
-no_refusal_answers ReadRefusal is = true≢false (sym is)
-no_refusal_answers (Formula fault) is = true≢false (sym is)
-no_refusal_answers (Automaton fault) is = true≢false (sym is)
-no_refusal_answers (Observer fault) is = true≢false (sym is)
-no_refusal_answers (Trace fault) is = true≢false (sym is)
-no_refusal_answers (Product excess limit) is = true≢false (sym is)
-no_refusal_answers (Budget over) is = true≢false (sym is)
-no_refusal_answers Write is = true≢false (sym is)
-no_refusal_answers Memory is = true≢false (sym is)
+no_refusal_answers _ is = true≢false (sym is)
 
 pub answers_as : (outcome : Outcome) (status : Status) → outcome.status ≡ status → IsTrue (is_answer outcome.status) → IsTrue (is_answer status)
 answers_as outcome status is answers = subst (λ (s : Status). IsTrue (is_answer s)) is answers

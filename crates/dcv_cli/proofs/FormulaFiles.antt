@@ -1,12 +1,6 @@
 -- What a text is that is given as a formula file: refused, or one file.
-use Rattle.std.proofs.Common.{◌≡◌, ℕ, ◌<◌, List, length, None, Some, arith}
-use Rattle.dcv_syntax.specs.Plain.{PlainFile}
-use Rattle.dcv_reader.specs.Spelling.{SpellsOne}
-use Rattle.dcv_scope.specs.Faults.{fault_of_file}
-use Rattle.dcv_scope.specs.declared.faults.ScopeFault.{ScopeFault}
-use Rattle.dcv_cli.specs.declared.refusal.Refusal.{Refusal}
-use Rattle.dcv_cli.specs.FormulaFile.{IsRefused, TooLong, Faulty, HasNoCore, IsSentence, IsFormulaFile}
-use Rattle.dcv_cli.specs.Refusal.{most_bytes}
+use Rattle.dcv_cli.proofs.Common.{◌≡◌, ℕ, ◌<◌, List, length, None, Some, arith, PlainFile, SpellsOne, fault_of_file, ScopeFault, Refusal}
+use Rattle.dcv_cli.proofs.Common.{IsRefused, TooLong, Faulty, HasNoCore, IsSentence, IsFormulaFile, most_bytes}
 
 -- a text that is too long is no sentence
 pub long_or_read : (text : List ℕ) (file : PlainFile) → most_bytes < length text → IsSentence text file → ⊥

@@ -1,38 +1,18 @@
 -- What is right for `all` is what its user is promised.
-use Rattle.std.proofs.Common.{◌≡◌, ◌↔◌, ℕ, Bool, true, false, List, length, map, Option, None, Some, refl, sym, ap, ◌∙◌, subst}
-use Rattle.std.specs.Prelude.{IsSomeAnd, not}
-use Rattle.std.proofs.lemmas.Bool.{false≢true}
-use Rattle.dcv_word.specs.Behaviour.{Word}
-use Rattle.dcv_syntax.specs.Plain.{PlainFile}
-use Rattle.dcv_logic.specs.Models.{models}
-use Rattle.dcv_language.specs.Language.{Language, HasEvery, outside}
-use Rattle.dcv_language.specs.Verdict.{IsLeastOf, Verdict}
-use Rattle.dcv_language.specs.VerdictText.{verdict_text}
-use Rattle.dcv_reader.specs.Spelling.{SpellsOne}
-use Rattle.dcv_scope.specs.CoreOf.{core_of_file}
-use Rattle.dcv_automaton_text.specs.File.{AutomatonFile}
+use Rattle.dcv_c.specs.Observer.{observer_of as unit_of}
+use Rattle.dcv_lustre.specs.Observer.{observer_of as node_of}
+use Rattle.dcv_cli.proofs.Common.{◌≡◌, ◌↔◌, ℕ, Bool, true, false, List, length, map, Option, None, Some, refl, sym, ap, ◌∙◌, subst}
+use Rattle.dcv_cli.proofs.Common.{IsSomeAnd, not, false≢true, Word, PlainFile, models, Language, IsLeastOf, Verdict, verdict_text}
+use Rattle.dcv_cli.proofs.Common.{SpellsOne, core_of_file, AutomatonFile, Limits, WithinExcludesOver, IsWithinBudget}
+use Rattle.dcv_cli.proofs.Common.{IsFileOf, texts_of, all_text, All, Request, Report, Only, Status, Valid, NotValid, steps_of_file, kind_of}
+use Rattle.dcv_cli.proofs.Common.{IsBudgeted, OverBudget, WithinBudget, IsFormulaFile, OnText, Refused, Read, Outcome, IsReport, Fulfils}
+use Rattle.dcv_cli.proofs.Common.{Misused, Fulfilled, status_of_verdict}
+use Rattle.dcv_language.specs.Language.{HasEvery, outside}
 use Rattle.dcv_automaton_file.specs.File.{file_of}
-use Rattle.dcv_lustre.specs.Observer.{observer_of as node_of, input_names}
-use Rattle.dcv_c.specs.Observer.{observer_of as unit_of, parameter_name}
-use Rattle.dcv_explore.specs.declared.explorer.Limits.{Limits}
-use Rattle.dcv_build.specs.Laws.{WithinExcludesOver}
-use Rattle.dcv_build.specs.Budget.{IsWithinBudget}
+use Rattle.dcv_lustre.specs.Observer.{input_names}
+use Rattle.dcv_c.specs.Observer.{parameter_name}
 use Rattle.dcv_print.specs.Laws.{AutomatonHasFewestStates}
-use Rattle.dcv_print.specs.Observers.{IsFileOf}
-use Rattle.dcv_print.specs.Printed.{texts_of}
-use Rattle.dcv_print.specs.Sections.{all_text}
-use Rattle.dcv_language.specs.declared.kind.Kind.TheVariants.{All}
-use Rattle.dcv_command.specs.Request.{Request, Report}
-use Rattle.dcv_cli.specs.declared.refused.Which.TheVariants.{Only}
-use Rattle.dcv_cli.specs.declared.status.Status.{Status}
-use Rattle.dcv_cli.specs.declared.status.Status.TheVariants.{Valid, NotValid}
-use Rattle.dcv_cli.specs.Budget.{steps_of_file, kind_of, IsBudgeted, OverBudget, WithinBudget}
-use Rattle.dcv_cli.specs.FormulaFile.{IsFormulaFile, OnText, Refused, Read}
 use Rattle.dcv_cli.specs.Headline.{AllIsSaid, IsAnswered, FirstFault, FirstStep, Said, Headline, HeadlineIsComplete}
-use Rattle.dcv_cli.specs.Outcome.{Outcome}
-use Rattle.dcv_cli.specs.Report.{IsReport}
-use Rattle.dcv_cli.specs.Right.{Fulfils, Misused, Fulfilled}
-use Rattle.dcv_cli.specs.Status.{status_of_verdict}
 use Rattle.dcv_cli.proofs.FormulaFiles.{one_file, refused_or_read}
 use Rattle.dcv_cli.proofs.OneRequest.{one_request}
 

@@ -2,6 +2,7 @@ pub mod Automata
 pub mod BothWays
 pub mod Budgets
 pub mod Certificates
+pub mod Common
 pub mod Comparisons
 pub mod Conversions
 pub mod ConvertedBack
@@ -9,7 +10,6 @@ pub mod Endings
 pub mod EqualMeanings
 pub mod FormulaFiles
 pub mod Headline
-pub mod LongTexts
 pub mod OneCertificate
 pub mod OneOutcome
 pub mod OneReplay
@@ -31,10 +31,8 @@ pub mod SomeSynthesised
 pub mod SomeTexts
 pub mod StepCounts
 pub mod StuckReports
-pub mod Sweeps
 pub mod Syntheses
 mod Texts
-pub mod TextReports
 pub mod ThreeEnds
 pub mod TraceEnds
 pub mod TwoFiles

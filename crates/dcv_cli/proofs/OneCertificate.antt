@@ -1,21 +1,13 @@
 -- One outcome at most is right where it is asked what the words of an automaton's text show.
-use Rattle.std.proofs.Common.{◌≡◌, inl, ℕ, List, Option, None, Some, sym, ap, ◌∙◌, subst, arith}
-use Rattle.std.specs.Prelude.{IsSomeAnd}
-use Rattle.dcv_automaton_text.specs.File.{AutomatonFile}
-use Rattle.dcv_automaton_text.specs.Laws.{OneFile}
+use Rattle.dcv_cli.proofs.Common.{◌≡◌, inl, ℕ, List, Option, None, Some, sym, ap, ◌∙◌, subst, arith, IsSomeAnd, AutomatonFile, OneFile}
+use Rattle.dcv_cli.proofs.Common.{OneAnswer, line, Refusal, Syntax, StatusAutomaton, IsRefusedAutomaton, HasNoForm, BreaksARule}
+use Rattle.dcv_cli.proofs.Common.{IsAutomatonText, OnAutomaton, IsCertificate, answer_words, status_of_answer, Outcome, Agrees, refused}
+use Rattle.dcv_cli.proofs.Common.{status_of, Only}
 use Rattle.dcv_automaton_lines.proofs.OneFault.{one_place, no_fault_of_form}
 use Rattle.dcv_automaton_read.proofs.GoodTexts.{one_broken, broken_or_good}
-use Rattle.dcv_certify.specs.Laws.{OneAnswer}
-use Rattle.dcv_language.specs.VerdictText.{line}
-use Rattle.dcv_cli.specs.declared.refusal.Refusal.{Refusal}
 use Rattle.dcv_cli.specs.declared.refusal.Refusal.TheVariants.{Automaton}
-use Rattle.dcv_cli.specs.declared.faults.AutomatonFault.TheVariants.{Syntax, Table}
-use Rattle.dcv_cli.specs.declared.status.Status.TheVariants.{Automaton as StatusAutomaton}
-use Rattle.dcv_cli.specs.AutomatonFile.{IsRefusedAutomaton, TooLong, HasNoForm, BreaksARule, IsAutomatonText, OnAutomaton, Refused, Read}
-use Rattle.dcv_cli.specs.Certificate.{IsCertificate, answer_words, status_of_answer}
-use Rattle.dcv_cli.specs.Outcome.{Outcome, Agrees, refused}
-use Rattle.dcv_cli.specs.Refusal.{status_of}
-use Rattle.dcv_cli.specs.declared.refused.Which.TheVariants.{Only}
+use Rattle.dcv_cli.specs.declared.faults.AutomatonFault.TheVariants.{Table}
+use Rattle.dcv_cli.specs.AutomatonFile.{TooLong, Refused, Read}
 
 -- outcomes that are the same agree
 pub same_agrees : (one other : Outcome) → one ≡ other → Agrees one other

@@ -1,66 +1,35 @@
 -- One outcome at most is right.
-use Rattle.std.proofs.Common.{◌≡◌, ◌≢◌, ◌⊎◌, inl, inr, refl, ℕ, Bool, true, false, List, length, Option, None, Some, sym, ap, ◌∙◌, subst, arith}
-use Rattle.std.specs.Prelude.{IsSomeAnd, is_none, slice_get, if◌then◌else◌}
-use Rattle.std.specs.Option.{option_map}
-use mathlib.Core.Bool.{true≢false}
-use Rattle.dcv_syntax.specs.Plain.{PlainFile}
-use Rattle.dcv_logic.specs.Models.{models}
-use Rattle.dcv_language.specs.Laws.{OneVerdict}
-use Rattle.dcv_language.specs.Verdict.{Verdict}
+use Rattle.dcv_cli.proofs.Common.{◌≡◌, ◌≢◌, ◌⊎◌, inl, inr, refl, ℕ, Bool, true, false, List, length, Option, None, Some, sym, ap, ◌∙◌}
+use Rattle.dcv_cli.proofs.Common.{subst, arith, IsSomeAnd, is_none, slice_get, if◌then◌else◌, option_map, true≢false, PlainFile, models}
+use Rattle.dcv_cli.proofs.Common.{OneVerdict, Verdict, ReadFault, ReadMemory, SpellsOne, core_of_file, PlainStep, fault_of_file, ScopeFault}
+use Rattle.dcv_cli.proofs.Common.{ScopeMemory, Limits, TooManyStates, TooManyNodes, IsOver, WithinExcludesOver, Excess, States, Nodes, Over}
+use Rattle.dcv_cli.proofs.Common.{Refusal, Budget, Product, Valid, NotValid, Usage, StatusBudget, OutOfMemory, steps_of_file, kind_of}
+use Rattle.dcv_cli.proofs.Common.{limit_of, IsFirstOver, IsBudgeted, OverBudget, WithinBudget, OneAutomaton, Kind as ReportKind, IsReport}
+use Rattle.dcv_cli.proofs.Common.{IsRefused, TooLong, Faulty, HasNoCore, IsFormulaFile, OnText, Refused, Read, Texts, Outcome, refused}
+use Rattle.dcv_cli.proofs.Common.{Agrees, message_of, only, status_of, refusal_of_reading, refusal_of_scope, Which, Only, First, Second}
+use Rattle.dcv_cli.proofs.Common.{OneFile as OneAutomatonText, OneAnswer, IsCompared, Undeclared, Declared, IsDifference, OverProduct}
+use Rattle.dcv_cli.proofs.Common.{WithinProduct, compared, OnHeld, Request, Report, Certify, Convert, Implies, Stuck, Synth, Replay, Sweep}
+use Rattle.dcv_cli.proofs.Common.{TooMany, Least, OneTraceVerdict, OneTextOfAnswers, summary_text, IsStuckReport, IsSwept, default_limits}
+use Rattle.dcv_cli.proofs.Common.{IsSynthesised, Undivided, Divided, IsSynthesisOf, AsksFor, texts_of, Fulfils, IsRight, Misused, Fulfilled}
+use Rattle.dcv_cli.proofs.Common.{status_of_verdict}
 use Rattle.dcv_sentence.specs.Faults.{FaultIsUnique}
-use Rattle.dcv_sentence.specs.declared.faults.ReadFault.{ReadFault}
-use Rattle.dcv_sentence.specs.declared.faults.ReadFault.TheVariants.{Byte as ByteAt, Syntax as SyntaxAt, Number as NumberAt, Name as NameAt, Nest as NestAt, Memory as ReadMemory}
-use Rattle.dcv_reader.specs.Spelling.{SpellsOne}
-use Rattle.dcv_scope.specs.CoreOf.{core_of_file}
-use Rattle.dcv_core.specs.Steps.{PlainStep}
-use Rattle.dcv_scope.specs.Faults.{fault_of_file}
-use Rattle.dcv_scope.specs.declared.faults.ScopeFault.{ScopeFault}
-use Rattle.dcv_scope.specs.declared.faults.ScopeFault.TheVariants.{TooMany, Duplicate, Taken, Unknown, Kind, Arity, Size, Depth, Slots, BoundShift, Memory as ScopeMemory}
-use Rattle.dcv_explore.specs.declared.explorer.Limits.{Limits}
-use Rattle.dcv_explore.specs.Budget.{Kind as KindOfExcess, TooManyStates, TooManyNodes}
-use Rattle.dcv_build.specs.Budget.{IsOver}
-use Rattle.dcv_build.specs.Laws.{OneStepIsOver, WithinExcludesOver, OneListOfCounts}
-use Rattle.dcv_cli.specs.declared.budget_line.Excess.{Excess}
-use Rattle.dcv_cli.specs.declared.budget_line.Excess.TheVariants.{States, Nodes}
-use Rattle.dcv_cli.specs.declared.budget_line.Over.{Over}
-use Rattle.dcv_cli.specs.declared.refusal.Refusal.{Refusal}
-use Rattle.dcv_cli.specs.declared.refusal.Refusal.TheVariants.{Budget, Product}
-use Rattle.dcv_cli.specs.declared.status.Status.TheVariants.{Valid, NotValid, Usage, Formula, Budget as StatusBudget, Memory as OutOfMemory}
-use Rattle.dcv_cli.specs.Budget.{steps_of_file, kind_of, limit_of, IsFirstOver, IsBudgeted, OverBudget, WithinBudget}
-use Rattle.dcv_print.specs.Laws.{OneAutomaton, OneFile}
-use Rattle.dcv_language.specs.declared.kind.Kind.{Kind as ReportKind}
-use Rattle.dcv_cli.specs.Report.{IsReport}
+use Rattle.dcv_scope.specs.declared.faults.ScopeFault.TheVariants.{TooMany}
+use Rattle.dcv_explore.specs.Budget.{Kind as KindOfExcess}
+use Rattle.dcv_build.specs.Laws.{OneStepIsOver, OneListOfCounts}
+use Rattle.dcv_cli.specs.declared.status.Status.TheVariants.{Formula}
+use Rattle.dcv_print.specs.Laws.{OneFile}
 use Rattle.dcv_cli.proofs.Texts.{one_text}
-use Rattle.dcv_cli.specs.FormulaFile.{IsRefused, TooLong, Faulty, HasNoCore, IsFormulaFile, OnText, Refused, Read}
 use Rattle.dcv_cli.specs.Laws.{NameOneStep, OneOutcome, AskForAReport}
-use Rattle.dcv_cli.specs.Held.{Texts}
-use Rattle.dcv_cli.specs.Outcome.{Outcome, line_of, refused, OfStep, OfProduct, Agrees}
-use Rattle.dcv_cli.specs.Refusal.{message_of, only, status_of, refusal_of_reading, refusal_of_scope}
-use Rattle.dcv_cli.specs.declared.refused.Which.{Which}
-use Rattle.dcv_cli.specs.declared.refused.Which.TheVariants.{Only, First, Second}
-use Rattle.dcv_automaton_text.specs.Laws.{OneFile as OneAutomatonText}
-use Rattle.dcv_certify.specs.Laws.{OneAnswer}
+use Rattle.dcv_cli.specs.Outcome.{line_of, OfStep, OfProduct}
 use Rattle.dcv_cli.proofs.FormulaFiles.{long_or_read, one_sentence, one_file, refused_or_read}
 use Rattle.dcv_cli.proofs.OneRequest.{one_request}
 use Rattle.dcv_cli.proofs.OneCertificate.{same_agrees, one_held_certificate}
 use Rattle.dcv_cli.proofs.ConvertedBack.{one_held_conversion}
 use Rattle.dcv_cli.proofs.OneReplay.{AreSubsets, one_held_replay}
-use Rattle.dcv_cli.specs.Comparison.{IsCompared, Undeclared, Declared, IsDifference, OverProduct, WithinProduct, compared}
-use Rattle.dcv_cli.specs.Held.{OnHeld}
-use Rattle.dcv_command.specs.Request.{Request, Report, Certify, Convert, Implies, Stuck, Synth, Replay, Sweep}
-use Rattle.dcv_implies.specs.Comparison.{TooMany, Least}
 use Rattle.dcv_implies.specs.Laws.{OneAnswer as OneComparison}
-use Rattle.dcv_replay.specs.Laws.{OneVerdict as OneTraceVerdict, OneText as OneTextOfAnswers}
 use Rattle.dcv_stuck.proofs.Answers.{one_least_stuck}
 use Rattle.dcv_sweep.specs.Laws.{OneSummary}
-use Rattle.dcv_sweep.specs.SummaryText.{summary_text}
-use Rattle.dcv_cli.specs.Stuck.{stuck_outcome, IsStuckReport}
-use Rattle.dcv_cli.specs.Swept.{IsSwept, default_limits}
-use Rattle.dcv_cli.specs.Synthesis.{IsSynthesised, Undivided, Divided, IsSynthesisOf}
-use Rattle.dcv_cli.specs.Request.{AsksFor}
-use Rattle.dcv_print.specs.Printed.{texts_of}
-use Rattle.dcv_cli.specs.Right.{Fulfils, IsRight, Misused, Fulfilled}
-use Rattle.dcv_cli.specs.Status.{status_of_verdict}
+use Rattle.dcv_cli.specs.Stuck.{stuck_outcome}
 
 -- ---- statuses that are not that of a step over the limits
 
@@ -74,25 +43,12 @@ no_memory_budget : OutOfMemory ≢ StatusBudget
 no_memory_budget e = cc
 
 reading_is_formula : (fault : ReadFault) → status_of (refusal_of_reading fault) ≢ StatusBudget
-reading_is_formula (ByteAt at) = no_formula_budget
-reading_is_formula (SyntaxAt at) = no_formula_budget
-reading_is_formula (NumberAt at) = no_formula_budget
-reading_is_formula (NameAt at) = no_formula_budget
-reading_is_formula (NestAt at) = no_formula_budget
 reading_is_formula ReadMemory = no_memory_budget
+reading_is_formula _ = no_formula_budget
 
 scope_is_formula : (fault : ScopeFault) → status_of (refusal_of_scope fault) ≢ StatusBudget
-scope_is_formula (TooMany at) = no_formula_budget
-scope_is_formula (Duplicate at) = no_formula_budget
-scope_is_formula (Taken at) = no_formula_budget
-scope_is_formula (Unknown at) = no_formula_budget
-scope_is_formula (Kind at) = no_formula_budget
-scope_is_formula (Arity at) = no_formula_budget
-scope_is_formula (Size at) = no_formula_budget
-scope_is_formula (Depth at) = no_formula_budget
-scope_is_formula (Slots at) = no_formula_budget
-scope_is_formula (BoundShift at) = no_formula_budget
 scope_is_formula ScopeMemory = no_memory_budget
+scope_is_formula _ = no_formula_budget
 
 refused_is_formula : (text : List ℕ) (refusal : Refusal) → IsRefused text refusal → status_of refusal ≢ StatusBudget
 refused_is_formula text refusal (TooLong long e) over = no_formula_budget (sym (ap status_of e) ∙ over)

@@ -1,25 +1,19 @@
 -- One outcome at most, and some, is right for a replay of files that are held.
-use Rattle.std.proofs.Common.{◌≡◌, ◌⊎◌, inl, inr, refl, ℕ, ◌≤◌, Bool, true, false, List, [], length, Option, None, Some, sym, ap, ◌∙◌, subst, arith}
-use Rattle.std.proofs.lemmas.Bool.Decides.{nat_tests}
-use Rattle.std.specs.Prelude.{IsSomeAnd, nat_le}
+use Rattle.dcv_cli.proofs.Common.{◌≡◌, ◌⊎◌, inl, inr, refl, ℕ, ◌≤◌, Bool, true, false, List, [], length, Option, None, Some, sym, ap, ◌∙◌}
+use Rattle.dcv_cli.proofs.Common.{subst, arith, nat_tests, IsSomeAnd, nat_le, Subset, InLustre, InC, ObsFault}
+use Rattle.dcv_cli.proofs.Common.{OneTraceVerdict as OneVerdict, SomeVerdict, OneTextOfAnswers as OneText, GoodLinesAreAnswered, Observer}
+use Rattle.dcv_cli.proofs.Common.{width_of, AreAnswers, good_letters, Refusal, Only, IsFaultIn, IsRefusedObserver, IsObserverText}
+use Rattle.dcv_cli.proofs.Common.{OnObserver, Outcome, Agrees, refused, most_observer_bytes, refusal_of_observer, IsReplay, fault_of_trace}
+use Rattle.dcv_cli.proofs.Common.{status_of_trace, message_of_trace}
 use Rattle.dcv_c.specs.Laws as c
 use Rattle.dcv_c.specs.Placed.{unit_of}
-use Rattle.dcv_command.specs.declared.words.Subset.{Subset}
-use Rattle.dcv_command.specs.declared.words.Subset.TheVariants.{Lustre as InLustre, C as InC}
 use Rattle.dcv_lustre.specs.Laws as lustre
 use Rattle.dcv_lustre.specs.Placed.{node_of}
-use Rattle.dcv_observer.specs.declared.fault.ObsFault.{ObsFault}
-use Rattle.dcv_replay.specs.Laws.{OneVerdict, SomeVerdict, OneText, GoodLinesAreAnswered}
-use Rattle.dcv_replay.specs.Observer.{Observer, Lustre, C, width_of, AreAnswers}
-use Rattle.dcv_replay.specs.TraceText.{Verdict, good_letters}
-use Rattle.dcv_cli.specs.declared.refusal.Refusal.{Refusal}
+use Rattle.dcv_replay.specs.Observer.{Lustre, C}
+use Rattle.dcv_replay.specs.TraceText.{Verdict}
 use Rattle.dcv_cli.specs.declared.refusal.Refusal.TheVariants.{Observer as ObserverRefusal}
 use Rattle.dcv_cli.specs.declared.faults.ObserverFault.TheVariants.{Length}
-use Rattle.dcv_cli.specs.declared.refused.Which.TheVariants.{Only}
-use Rattle.dcv_cli.specs.ObserverFile.{IsFaultIn, IsObserverIn, IsRefusedObserver, TooLong, Faulty, IsObserverText, OnObserver, Refused, Read}
-use Rattle.dcv_cli.specs.Outcome.{Outcome, Agrees, refused}
-use Rattle.dcv_cli.specs.Refusal.{most_observer_bytes, refusal_of_observer}
-use Rattle.dcv_cli.specs.Replayed.{IsReplay, fault_of_trace, status_of_trace, message_of_trace}
+use Rattle.dcv_cli.specs.ObserverFile.{IsObserverIn, TooLong, Faulty, Refused, Read}
 use Rattle.dcv_cli.proofs.OneCertificate.{same_agrees}
 use Rattle.dcv_cli.proofs.Replays.{keeps_the_rules}
 

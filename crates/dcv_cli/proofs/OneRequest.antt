@@ -1,7 +1,5 @@
 -- Words ask for one thing.
-use Rattle.std.proofs.Common.{◌≡◌, ℕ, List, Some, sym, ◌∙◌}
-use Rattle.dcv_command.specs.Request.{Request}
-use Rattle.dcv_cli.specs.Request.{AsksFor}
+use Rattle.dcv_cli.proofs.Common.{◌≡◌, ℕ, List, Some, sym, ◌∙◌, Request, AsksFor}
 
 some_same : (r s : Request) → Some r ≡ Some s → r ≡ s
 some_same r s e = cc

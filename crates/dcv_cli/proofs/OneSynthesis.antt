@@ -1,21 +1,11 @@
 -- One controller, or one strategy, is right for a file.
-use Rattle.std.proofs.Common.{◌≡◌, ℕ, ◌+◌, ◌-◌, List, ◌++◌, codes, inl, length, sym, ap, ◌∙◌, subst, take}
-use Rattle.std.specs.Fmt.{decimal}
-use Rattle.std.specs.List.{flat_map}
-use Rattle.dcv_syntax.specs.Plain.{PlainFile}
-use Rattle.dcv_logic.specs.Models.{models}
-use Rattle.dcv_language.specs.Language.{Language}
+use Rattle.dcv_cli.proofs.Common.{◌≡◌, ℕ, ◌+◌, ◌-◌, List, ◌++◌, codes, inl, length, sym, ap, ◌∙◌, subst, take, decimal, flat_map, PlainFile}
+use Rattle.dcv_cli.proofs.Common.{models, Language, Table, automaton_of, line, text_of, CUnit, IsControlOf, IsUnrealisable, Outcome, Agrees}
+use Rattle.dcv_cli.proofs.Common.{controller_text, move_line, strategy_text, SaysController, SaysStrategy, IsSynthesis, Realisable}
+use Rattle.dcv_cli.proofs.Common.{Unrealisable, IsSynthesisOf}
 use Rattle.dcv_language.specs.Laws.{OneCanonicalTable}
-use Rattle.dcv_language.specs.Table.{Table, automaton_of}
-use Rattle.dcv_language.specs.VerdictText.{line}
 use Rattle.dcv_automaton_file.specs.File.{texts_of}
-use Rattle.dcv_c.specs.Layout.{text_of}
-use Rattle.dcv_c.specs.Tree.{CUnit}
-use Rattle.dcv_synth.specs.Control.{IsControlOf}
 use Rattle.dcv_synth.specs.Laws.{NotBothAreRight, OneStrategyIsRight, OneUnitIsRight}
-use Rattle.dcv_synth.specs.Outcome.{IsUnrealisable}
-use Rattle.dcv_cli.specs.Outcome.{Outcome, Agrees}
-use Rattle.dcv_cli.specs.Synthesis.{controller_text, move_line, strategy_text, SaysController, SaysStrategy, IsSynthesis, Realisable, Unrealisable, IsSynthesisOf}
 
 module _ (one_table : OneCanonicalTable) (one_unit : OneUnitIsRight) (one_strategy : OneStrategyIsRight) (not_both : NotBothAreRight) where
   module _ (n m : ℕ) (L : Language) (names : List (List ℕ)) where

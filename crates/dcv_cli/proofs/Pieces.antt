@@ -1,21 +1,15 @@
 -- A front of a later piece, after whole earlier ones, is a front of all of them.
-use Rattle.std.proofs.Common.{◌≡◌, ℕ, suc, ◌<◌, List, ◌++◌, codes, append_assoc, length, get_or, take, drop, Option, sym, ap, ◌∙◌, subst}
+use Rattle.dcv_cli.proofs.Common.{◌≡◌, ℕ, suc, ◌<◌, List, ◌++◌, codes, append_assoc, length, get_or, take, drop, Option, sym, ap, ◌∙◌}
+use Rattle.dcv_cli.proofs.Common.{subst, OnOk, OnErr, ⊤, Result, Ok, Err, refl, Failed, line, message_of, Which, Only, First, Second}
+use Rattle.dcv_cli.proofs.Common.{flat_map, ◌≤◌, arith, length-append, Appends, AppendsPrefix, AppendsStrictPrefix, strict_is_prefix}
 use Rattle.std.specs.Borrow.{Bor}
-use Rattle.std.specs.Prelude.{OnOk, OnErr, ⊤}
-use Rattle.std.proofs.Common.{Result, Ok, Err, refl}
-use Rattle.dcv_io.specs.declared.fault.Failed.{Failed}
-use Rattle.dcv_language.specs.VerdictText.{line}
-use Rattle.dcv_cli.specs.Refusal.{words_of, ended, end_of, message_of}
+use Rattle.dcv_cli.specs.Refusal.{words_of, ended, end_of}
 use Rattle.dcv_cli.specs.declared.refused.Refused.{Refused}
-use Rattle.dcv_cli.specs.declared.refused.Which.{Which}
-use Rattle.dcv_cli.specs.declared.refused.Which.TheVariants.{Only, First, Second}
-use Rattle.std.specs.List.{flat_map}
 use Rattle.std.proofs.lemmas.Grind.{flat_map-append}
 use Rattle.std.proofs.lemmas.List.{take-append-drop, take-append-le}
-use Rattle.std.proofs.Common.{◌≤◌, arith, length-append}
 use Rattle.std.proofs.Math.Seq.{drop-cons}
-use Rattle.dcv_io.specs.Written.{Appends, AppendsPrefix, AppendsStrictPrefix, appended}
-use Rattle.dcv_io.proofs.Appending.{strict_is_prefix, appends_further, appends_less, appended-appended}
+use Rattle.dcv_io.specs.Written.{appended}
+use Rattle.dcv_io.proofs.Appending.{appends_further, appends_less, appended-appended}
 
 abbrev joined : List (Bor (List ℕ)) → List ℕ
 joined pieces = flat_map (λ piece. piece.now) pieces

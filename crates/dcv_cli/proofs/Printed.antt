@@ -1,40 +1,15 @@
 -- Texts of automata that are printed are certified.
-use Rattle.std.proofs.Common.{◌≡◌, ℕ, ◌≤◌, List, length, Option, None, Some, sym, ap, ◌∙◌, subst, arith}
-use Rattle.std.specs.Prelude.{IsTrue, IsSomeAnd}
-use Rattle.std.proofs.lemmas.List.{length-map}
-use Rattle.dcv_automaton_text.specs.File.{AutomatonFile}
-use Rattle.dcv_automaton_text.specs.Form.{HasForm}
-use Rattle.dcv_automaton_text.specs.Laws.{OneFile}
-use Rattle.dcv_automaton_text.specs.Meaning.{access_words_of, suffix_words_of, table_of}
-use Rattle.dcv_automaton_text.specs.Rules.{AreNames, most_steps}
-use Rattle.dcv_language.specs.declared.count.Count.{Count}
-use Rattle.dcv_certify.specs.Certified.{IsCertified}
-use Rattle.dcv_certify.specs.Laws.{OneAnswer, PrintedIsCertified as GoodWordsAreCertified}
-use Rattle.dcv_certify.specs.declared.answer.Answer.TheVariants.{Minimal}
-use Rattle.dcv_explore.specs.declared.explorer.Limits.{Limits}
-use Rattle.dcv_language.specs.Canonical.{IsCanonical}
+use Rattle.dcv_cli.proofs.Common.{◌≡◌, ℕ, ◌≤◌, List, length, Option, None, Some, sym, ap, ◌∙◌, subst, arith, IsTrue, IsSomeAnd, length-map}
+use Rattle.dcv_cli.proofs.Common.{AutomatonFile, HasForm, OneFile, access_words_of, AreNames, most_steps, Count, IsCertified, OneAnswer}
+use Rattle.dcv_cli.proofs.Common.{Minimal, Limits, IsCanonical, models, texts_of, Kind, Automaton, All, NamesAreShort, StepsAreFew}
+use Rattle.dcv_cli.proofs.Common.{PlainFile, Name, SaysAutomaton, IsAutomatonText, OnAutomaton, IsBudgeted, OverBudget, WithinBudget}
+use Rattle.dcv_cli.proofs.Common.{IsCertificate, status_of_answer, OnText, Refused, Read, Outcome, most_automaton_bytes, status_of}
+use Rattle.dcv_cli.proofs.Common.{IsReport, is_answer, Budget, Only, Done, StatusBudget}
+use Rattle.dcv_automaton_text.specs.Meaning.{suffix_words_of, table_of}
+use Rattle.dcv_certify.specs.Laws.{PrintedIsCertified as GoodWordsAreCertified}
 use Rattle.dcv_language.specs.Certificate.{IsCertificate as IsCertificateOf}
-use Rattle.dcv_logic.specs.Models.{models}
-use Rattle.dcv_print.specs.Printed.{texts_of}
-use Rattle.dcv_language.specs.declared.kind.Kind.{Kind}
-use Rattle.dcv_language.specs.declared.kind.Kind.TheVariants.{Automaton, All}
-use Rattle.dcv_reader.specs.Laws.{NamesAreShort}
-use Rattle.dcv_scope.specs.Laws.{StepsAreFew}
-use Rattle.dcv_syntax.specs.Plain.{PlainFile}
-use Rattle.dcv_syntax.specs.declared.names.Name.{Name}
-use Rattle.dcv_cli.specs.Automaton.{SaysAutomaton}
-use Rattle.dcv_cli.specs.AutomatonFile.{IsAutomatonText, OnAutomaton, Refused as RefusedAutomaton, Read as ReadAutomaton}
-use Rattle.dcv_cli.specs.Budget.{IsBudgeted, OverBudget, WithinBudget}
-use Rattle.dcv_cli.specs.Certificate.{IsCertificate, status_of_answer}
-use Rattle.dcv_cli.specs.FormulaFile.{OnText, Refused, Read}
+use Rattle.dcv_cli.specs.AutomatonFile.{Refused as RefusedAutomaton, Read as ReadAutomaton}
 use Rattle.dcv_cli.specs.Laws.{IsCertifiable, IsPrinted, PrintedIsCertified}
-use Rattle.dcv_cli.specs.Outcome.{Outcome}
-use Rattle.dcv_cli.specs.Refusal.{most_automaton_bytes, status_of}
-use Rattle.dcv_cli.specs.Report.{IsReport}
-use Rattle.dcv_cli.specs.Status.{is_answer}
-use Rattle.dcv_cli.specs.declared.refusal.Refusal.TheVariants.{Budget}
-use Rattle.dcv_cli.specs.declared.refused.Which.TheVariants.{Only}
-use Rattle.dcv_cli.specs.declared.status.Status.TheVariants.{Done, Budget as StatusBudget}
 use Rattle.dcv_cli.proofs.EqualMeanings.{answers_as, no_refusal_answers}
 use Rattle.dcv_cli.proofs.OneCertificate.{refused_or_read}
 use Rattle.dcv_cli.proofs.PrintedLengths.{few_lines, printed_fits}

@@ -1,36 +1,32 @@
 -- A printed text of an automaton is no longer than one that is read may be: a bound for the lines of each kind, times how many there are.
-use Rattle.std.proofs.Common.{◌≡◌, ℕ, zero, suc, ◌+◌, ◌*◌, ◌<◌, ◌≤◌, Bool, true, false, List, [], ◌∷◌, ◌++◌, Option, None, Some, length, map, fold, get_or, refl, sym, ap, ◌∙◌, subst, arith, codes}
-use Rattle.std.specs.Prelude.{IfSome}
-use Rattle.std.specs.List.{All, enumerate_from, flat_map, join_with_byte}
-use Rattle.std.specs.Fmt.{decimal}
-use Rattle.std.specs.Str.{bytes_eq}
+use Rattle.dcv_cli.proofs.Common.{◌≡◌, ℕ, zero, suc, ◌+◌, ◌<◌, ◌≤◌, Bool, true, false, List, [], ◌∷◌, ◌++◌, Option, None, Some, length, map}
+use Rattle.dcv_cli.proofs.Common.{get_or, refl, sym, ap, ◌∙◌, subst, arith, codes, IfSome, flat_map, decimal, bytes_eq, length-map}
+use Rattle.dcv_cli.proofs.Common.{append-nil, bytes_eq-Decides, StepPart, AutomatonFile, IsPlainName, AreNames, most_steps, step_part}
+use Rattle.dcv_cli.proofs.Common.{end_lines, spelled_line, access_words_of, Language, Count, step_part_of, Word, most_states}
+use Rattle.dcv_cli.proofs.Common.{most_automaton_bytes}
+use Rattle.std.proofs.Common.{◌*◌, fold}
+use Rattle.std.specs.List.{All, enumerate_from, join_with_byte}
 use Rattle.std.proofs.lemmas.Fmt.{length-decimal-le}
-use Rattle.std.proofs.lemmas.List.{length-append, length-map, append_assoc, append-nil}
+use Rattle.std.proofs.lemmas.List.{length-append, append_assoc}
 use Rattle.std.proofs.lemmas.List.Folds.{Any-from_list_any}
 use Rattle.std.proofs.lemmas.List.FromFn.{length-enumerate_from}
 use Rattle.std.specs.Cmp.{unsigned_Decides}
-use Rattle.std.proofs.lemmas.Slice.Eq.{bytes_eq-Decides}
 use Rattle.dcv_word.specs.TraceLine.{trace_line, digit_of}
 use Rattle.dcv_automaton_text.specs.File.{NodeLine, StateLine, Access, EmptyAccess, StartAccess, AfterAccess}
-use Rattle.dcv_automaton_text.specs.File.{Suffix, EmptySuffix, ThenSuffix, SuffixLine, StepLine, StepPart, AutomatonFile}
+use Rattle.dcv_automaton_text.specs.File.{Suffix, EmptySuffix, ThenSuffix, SuffixLine, StepLine}
 use Rattle.dcv_automaton_text.specs.Form.{IsNumber, IsTarget, IsNodeLine, IsStateLine, IsAccess, IsSuffix, IsStepLine, IsStepPart}
-use Rattle.dcv_automaton_text.specs.Rules.{IsPlainName, AreNames, is_listed, keeps_how_access, most_steps}
-use Rattle.dcv_automaton_text.specs.Spelled.{target_word, answer_word, name_words, node_words, state_words, access_words, suffix_words, step_words, steps_words, version_word, head_lines, step_part, end_lines, lines_of, spelled_line, spelled}
+use Rattle.dcv_automaton_text.specs.Rules.{is_listed, keeps_how_access}
+use Rattle.dcv_automaton_text.specs.Spelled.{target_word, answer_word, name_words, node_words, state_words, access_words, suffix_words, step_words, steps_words, version_word, head_lines, lines_of, spelled}
 use Rattle.dcv_automaton_text.proofs.GoodFiles.{IsGoodFile, good_file}
 use Rattle.dcv_automaton_text.proofs.Kept.{AreKept}
 use Rattle.dcv_automaton_text.proofs.GoodTables.{table_has_the_files_states}
-use Rattle.dcv_automaton_text.specs.Meaning.{access_words_of, suffix_word_of, suffix_words_of}
+use Rattle.dcv_automaton_text.specs.Meaning.{suffix_word_of, suffix_words_of}
 use Rattle.dcv_language.specs.Certificate.{GrowsInTurn, IsCertificate}
-use Rattle.dcv_language.specs.Language.{Language}
-use Rattle.dcv_language.specs.declared.count.Count.{Count}
 use Rattle.dcv_print.specs.Automaton.{IsAutomatonOf}
-use Rattle.dcv_automaton_read.specs.File.{step_line, step_part as step_part_of}
+use Rattle.dcv_automaton_read.specs.File.{step_line}
 use Rattle.dcv_print.proofs.SuffixCounts.{suffixes_are_few}
-use Rattle.dcv_word.specs.Behaviour.{Word}
-use Rattle.dcv_language.specs.Limits.{most_states}
 use Rattle.dcv_language.specs.declared.child.Child.{Child}
 use Rattle.dcv_language.specs.declared.child.Child.TheVariants.{State, Node}
-use Rattle.dcv_cli.specs.Refusal.{most_automaton_bytes}
 
 -- ---- words of a line
 

@@ -1,37 +1,23 @@
 -- The observer of a replay, and what is right for the trace after it.
-use Rattle.std.proofs.Common.{◌≡◌, ◌≢◌, ◌≤◌, ℕ, List, [], ◌∷◌, length, Option, None, Some, Result, Ok, Err, refl, sym, subst, ◌∙◌}
-use Rattle.std.specs.Prelude.{IfErr}
-use Rattle.std.specs.Bool.{OnTrue}
-use Rattle.dcv_io.specs.Asked.{Asks}
-use Rattle.dcv_io.specs.Disk.{Disk, held_of}
-use Rattle.dcv_io.proofs.Asking.{asks_in_turn}
-use Rattle.dcv_command.specs.Request.{Replay}
-use Rattle.dcv_command.specs.declared.words.Subset.{Subset}
-use Rattle.dcv_command.specs.declared.words.Subset.TheVariants.{Lustre as InLustre, C as InC}
-use Rattle.dcv_observer.specs.declared.fault.ObsFault.{ObsFault}
-use Rattle.dcv_observer.specs.declared.fault.ObsFault.TheVariants.{Syntax, Names, Memory}
-use Rattle.dcv_replay.specs.Observer.{Observer, Lustre, C, KeepsTheRules}
-use Rattle.dcv_cli.specs.declared.refusal.Refusal.{Refusal}
-use Rattle.dcv_cli.specs.declared.refused.Which.TheVariants.{Only}
-use Rattle.dcv_cli.specs.Held.{Texts, OnHeld, ForHeld, IsHeldText}
-use Rattle.dcv_cli.specs.ObserverFile.{IsFaultIn, IsRefusedObserver, Faulty, IsObserverText, OnObserver, Refused, Read}
-use Rattle.dcv_cli.specs.Outcome.{Outcome, IsExplained}
-use Rattle.dcv_cli.specs.Outside.{Outside}
-use Rattle.dcv_cli.specs.Performed.{LeavesFor}
-use Rattle.dcv_cli.specs.Refusal.{most_observer_bytes, refusal_of_observer, status_of}
-use Rattle.dcv_cli.specs.Replayed.{IsReplay, LeavesAnswers, OfObserver, OfOpen as NotOpened, OfRead as ReadFailed}
-use Rattle.dcv_cli.specs.Replaying.{IsRefusedIn, FulfilsTrace, LeavesTrace, LeavesOfTrace, OfOpen, OfRead}
-use Rattle.dcv_cli.specs.Right.{Fulfils, FulfilsOver}
-use Rattle.dcv_cli.specs.Status.{is_determined}
-use Rattle.dcv_cli.proofs.ThreeEnds.{on_true_weaker, explains_first}
-use Rattle.dcv_cli.proofs.TwoFiles.{StepsTo, from, later_held}
+use Rattle.dcv_cli.proofs.Common.{◌≡◌, ◌≢◌, ◌≤◌, ℕ, List, [], ◌∷◌, length, Option, Some, Result, Ok, Err, refl, sym, subst, ◌∙◌, IfErr}
+use Rattle.dcv_cli.proofs.Common.{OnTrue, Asks, Disk, held_of, asks_in_turn, Replay, Subset, InLustre, InC, ObsFault, Observer}
+use Rattle.dcv_cli.proofs.Common.{KeepsTheRules, Refusal, Only, Texts, OnHeld, IsHeldText, IsFaultIn, IsRefusedObserver, IsObserverText}
+use Rattle.dcv_cli.proofs.Common.{OnObserver, Outcome, IsExplained, Outside, outside, LeavesFor, most_observer_bytes, refusal_of_observer}
+use Rattle.dcv_cli.proofs.Common.{status_of, IsReplay, FulfilsTrace, LeavesTrace, LeavesOfTrace, OfOpen, OfRead, Fulfils, FulfilsOver}
+use Rattle.dcv_cli.proofs.Common.{is_determined}
+use Rattle.dcv_observer.specs.declared.fault.ObsFault.TheVariants.{Memory}
+use Rattle.dcv_replay.specs.Observer.{Lustre, C}
+use Rattle.dcv_cli.specs.ObserverFile.{Faulty, Refused, Read}
+use Rattle.dcv_cli.specs.Replayed.{LeavesAnswers, OfObserver, OfOpen as NotOpened, OfRead as ReadFailed}
+use Rattle.dcv_cli.specs.Replaying.{IsRefusedIn}
+use Rattle.dcv_cli.proofs.ThreeEnds.{explains_first, for_any, on_true_weaker}
+use Rattle.dcv_cli.proofs.TwoFiles.{later_held}
 
 -- a fault of the text is a right refusal
 pub explains_observer : (subset : Subset) (text : List ℕ) (fault : ObsFault) → length text ≤ most_observer_bytes → (fault ≢ Memory → IsFaultIn subset text fault)
     → OnTrue (is_determined (status_of (refusal_of_observer fault))) (IsRefusedObserver subset text (refusal_of_observer fault))
-explains_observer subset text (Syntax at) short has = let fault : Syntax at ≢ Memory = λ same. cc in Faulty short (Syntax at) (has fault) refl
-explains_observer subset text (Names at) short has = let fault : Names at ≢ Memory = λ same. cc in Faulty short (Names at) (has fault) refl
 explains_observer subset text Memory short has = tt
+explains_observer subset text fault short has = Faulty short fault (has (λ same. cc)) refl
 
 -- an observer that is read keeps the rules of names
 pub keeps_the_rules : (subset : Subset) (text : List ℕ) (observer : Observer) → IsObserverText subset text observer → KeepsTheRules observer
@@ -69,17 +55,21 @@ module _ (subset : Subset) (told : Option Disk) (name trace : List ℕ) where
         moves held late here next right = rw here (Read observer is (subst (λ held. OnHeld held trace (IsReplay observer) outcome) (sym next) right))
 
 -- what was written where the trace failed is what was written for both
-pub leaves_replay : (subset : Subset) (name trace text : List ℕ) (observer : Observer) (before mid after : Outside) (bytes : List ℕ) → StepsTo name before mid
-    → IsHeldText before.told name text → IsObserverText subset text observer → LeavesTrace observer trace (from before mid) after bytes
+pub leaves_replay : (subset : Subset) (name trace text : List ℕ) (observer : Observer) (told : Option Disk) (asked : Option (List (List ℕ))) (before after : Outside) (bytes : List ℕ)
+    → Asks (name ∷ []) before.asked asked → held_of told ≡ held_of before.told → IsHeldText before.told name text → IsObserverText subset text observer
+    → LeavesTrace observer trace (outside told asked before.open_faults before.read_faults before.written before.faults) after bytes
     → LeavesFor (Replay subset name trace) before after bytes
-leaves_replay subset name trace text observer before mid after bytes steps there is left =
-    later_held before.told mid.told name text (λ held. LeavesOfTrace observer trace (held 0 trace) (from before mid) after bytes)
-    (λ held. LeavesAnswers subset name trace held before after bytes) steps.held there moves left
+leaves_replay subset name trace text observer told asked before after bytes one same there is left =
+    later_held before.told told name text (λ held. LeavesOfTrace observer trace (held 0 trace) from after bytes)
+    (λ held. LeavesAnswers subset name trace held before after bytes) same there moves left
   where
-    both : Asks (trace ∷ []) mid.asked after.asked → Asks (name ∷ trace ∷ []) before.asked after.asked
-    both asked = asks_in_turn before.asked mid.asked after.asked (name ∷ []) (trace ∷ []) steps.asked asked
+    from : Outside
+    from = outside told asked before.open_faults before.read_faults before.written before.faults
 
-    moves : (held late : Texts) → held 0 name ≡ Some text → held 1 ≡ late 0 → LeavesOfTrace observer trace (late 0 trace) (from before mid) after bytes
+    both : Asks (trace ∷ []) asked after.asked → Asks (name ∷ trace ∷ []) before.asked after.asked
+    both later = asks_in_turn before.asked asked after.asked (name ∷ []) (trace ∷ []) one later
+
+    moves : (held late : Texts) → held 0 name ≡ Some text → held 1 ≡ late 0 → LeavesOfTrace observer trace (late 0 trace) from after bytes
         → LeavesAnswers subset name trace held before after bytes
     moves held late here next (OfOpen asked risen none) = NotOpened (both asked) risen (record { text = text; there = here; observer = observer; is = is }) none
     moves held late here next (OfRead asked risen found found_is short) = ReadFailed (both asked) risen (record {
@@ -95,7 +85,5 @@ leaves_replay subset name trace text observer before mid after bytes steps there
 -- nothing was written where the observer's file failed
 pub leaves_before_trace : (subset : Subset) (name trace : List ℕ) (before after : Outside) → Asks (name ∷ []) before.asked after.asked
     → LeavesFor (Replay subset name trace) before after []
-leaves_before_trace subset name trace before after asked = by before.told where
-  by : (told : Option Disk) → ForHeld told (λ held. LeavesAnswers subset name trace held before after [])
-  by None = record { held = λ time n. None; same = tt; holds = OfObserver asked refl }
-  by (Some disk) = record { held = λ time. disk.held; same = λ time. refl; holds = OfObserver asked refl }
+leaves_before_trace subset name trace before after asked =
+    for_any before.told (λ held. LeavesAnswers subset name trace held before after []) (λ held. OfObserver asked refl)

@@ -1,16 +1,12 @@
 -- Each file of the form has an answer: what is asked of its words can be decided.
-use Rattle.std.proofs.Common.{◌≡◌, ◌⊎◌, inl, inr, ℕ, zero, suc, ◌<◌, ◌≤◌, List, length, sym, subst, arith}
-use Rattle.std.proofs.lemmas.Bool.{cases_eq, cases_lt}
-use Rattle.dcv_word.specs.Behaviour.{Word}
-use Rattle.dcv_language.specs.Language.{Language}
+use Rattle.dcv_cli.proofs.Common.{◌≡◌, ◌⊎◌, inl, inr, ℕ, zero, suc, ◌<◌, ◌≤◌, List, length, sym, subst, arith, cases_lt, Word, Language}
+use Rattle.dcv_cli.proofs.Common.{AutomatonFile, HasGoodWords, IsCertified, Answer, Minimal, Access, Pair}
+use Rattle.std.proofs.lemmas.Bool.{cases_eq}
 use Rattle.dcv_language.specs.Certificate.{AreToldBy}
 use Rattle.dcv_language.proofs.Ascending.{Member-from_IsAmong}
-use Rattle.dcv_automaton_text.specs.File.{AutomatonFile}
 use Rattle.dcv_automaton_text.specs.Meaning.{suffix_words_of}
 use Rattle.dcv_quotient.proofs.ToldWords.{told_or_not, told_by}
-use Rattle.dcv_certify.specs.Certified.{set_of, word_at, landed, HasGoodWords, AreTold, IsPair, IsNoLaterPair, IsFirstPair, IsCertified}
-use Rattle.dcv_certify.specs.declared.answer.Answer.{Answer}
-use Rattle.dcv_certify.specs.declared.answer.Answer.TheVariants.{Minimal, Access, Pair}
+use Rattle.dcv_certify.specs.Certified.{set_of, word_at, landed, AreTold, IsPair, IsNoLaterPair, IsFirstPair}
 
 -- ---- numbers below a bound
 

@@ -2,32 +2,16 @@
 --     within_of_core       so it is with the table of its words
 --     within_of_set        and with that of a set that has the same behaviours
 --     within_of_file       and with that of what models a file
-use Rattle.std.proofs.Common.{◌≡◌, ℕ, List, [], length, None, sym, ◌∙◌, subst, arith}
-use Rattle.std.proofs.lemmas.Option.{slice_get_within, slice_get-get_or}
-use Rattle.dcv_word.specs.Behaviour.{Word}
-use Rattle.dcv_language.specs.Automaton.{accepts}
-use Rattle.dcv_language.specs.Canonical.{IsCanonical}
-use Rattle.dcv_language.specs.Language.{Language, HaveSameBehaviours}
-use Rattle.dcv_language.specs.Table.{Table}
-use Rattle.dcv_language.proofs.Canonicals.{canonical_for_same_behaviours}
-use Rattle.dcv_core.specs.Core.{CoreTree}
-use Rattle.dcv_core.specs.Holds.{words_of}
-use Rattle.dcv_core.specs.Steps.{steps_before, steps_of}
+use Rattle.dcv_cli.proofs.Common.{◌≡◌, ℕ, List, [], length, None, sym, ◌∙◌, subst, arith, slice_get_within, slice_get-get_or, Word, accepts}
+use Rattle.dcv_cli.proofs.Common.{IsCanonical, Language, HaveSameBehaviours, Table, canonical_for_same_behaviours, CoreTree, words_of}
+use Rattle.dcv_cli.proofs.Common.{steps_of, Limits, models, core_of_file, fault_of_file, fault_of_goal, WordsAreModels, fault_of_names}
+use Rattle.dcv_cli.proofs.Common.{no_bound_shift, PlainFile, row_at, IsWithinBudget, MachineAcceptsStep, steps_of_file, IsTableWithin}
+use Rattle.dcv_core.specs.Steps.{steps_before}
 use Rattle.dcv_core.proofs.StepList.{last_step_is_core}
-use Rattle.dcv_explore.specs.declared.explorer.Limits.{Limits}
-use Rattle.dcv_logic.specs.Models.{models}
-use Rattle.dcv_scope.specs.CoreOf.{core_of_file}
-use Rattle.dcv_scope.specs.Faults.{fault_of_file, fault_of_goal}
-use Rattle.dcv_scope.specs.Laws.{WordsAreModels}
-use Rattle.dcv_scope.specs.Names.{fault_of_names}
-use Rattle.dcv_scope.proofs.Faulting.{no_bound_shift}
-use Rattle.dcv_syntax.specs.Plain.{PlainFile}
-use Rattle.dcv_build.specs.Budget.{row_at, IsWithinBudget}
-use Rattle.dcv_build.specs.Laws.{MachineAcceptsStep, AreCanonicalBefore}
-use Rattle.dcv_cli.specs.Budget.{steps_of_file}
+use Rattle.dcv_build.specs.Laws.{AreCanonicalBefore}
 use Rattle.dcv_build.proofs.Progress.{row_slots}
 use Rattle.dcv_build.proofs.SameRows.{table_at}
-use Rattle.dcv_quotient.proofs.TableBounds.{IsTableWithin, within_of_row}
+use Rattle.dcv_quotient.proofs.TableBounds.{within_of_row}
 use Rattle.dcv_cli.proofs.VariableNames.{none_of_both}
 
 module _ (accept : MachineAcceptsStep) (k : ℕ) (tree : CoreTree) (limits : Limits) (within : IsWithinBudget (steps_of k tree) limits) where

@@ -2,34 +2,21 @@
 -- wins, or a strategy that beats every controller.
 --     GameLaws               the laws that are cited
 --     some_synthesis_of      so there is one
-use Rattle.std.proofs.Common.{◌≡◌, inl, inr, ℕ, ◌+◌, ◌≤◌, List, [], length, refl, sym, ◌∙◌, subst, arith}
-use Rattle.std.proofs.lemmas.List.{length-map}
-use Rattle.dcv_word.specs.Behaviour.{Word}
-use Rattle.dcv_automaton_text.specs.Rules.{AreNames}
+use Rattle.dcv_cli.proofs.Common.{◌≡◌, inl, inr, ℕ, ◌+◌, ◌≤◌, List, [], length, refl, sym, ◌∙◌, subst, arith, length-map, Word, AreNames}
+use Rattle.dcv_cli.proofs.Common.{TextIsReadBack, text_of, IsCanonical, Language, Table, table_accepts, automaton_of, most_states}
+use Rattle.dcv_cli.proofs.Common.{most_nodes, ControlValue, controller_by, Wins, ControlsWin, StrategiesBeat, WinsOverSameBehaviours}
+use Rattle.dcv_cli.proofs.Common.{BeatsOverSameBehaviours, input_at, IsUnrealisable, environment_of, controller_in, Strategy, Outcome}
+use Rattle.dcv_cli.proofs.Common.{Valid, NotValid, controller_text, strategy_text, SaysController, SaysStrategy, IsSynthesis, Realisable}
+use Rattle.dcv_cli.proofs.Common.{Unrealisable}
 use Rattle.dcv_arena.specs.Arena.{ArenaValue, IsReduced, IsRef}
 use Rattle.dcv_arena.specs.Diagram.{node_count}
 use Rattle.dcv_arena.specs.declared.nodes.Ref.{Ref}
-use Rattle.dcv_c.specs.Laws.{TextIsReadBack}
-use Rattle.dcv_c.specs.Layout.{text_of}
 use Rattle.dcv_dfa.specs.NodeLines.{lines_of_rows, line_of, numbered}
 use Rattle.dcv_dfa.proofs.NodeCounts.{few_numbered}
 use Rattle.dcv_dfa.proofs.Numberings.{rows_numbered}
-use Rattle.dcv_language.specs.Canonical.{IsCanonical}
-use Rattle.dcv_language.specs.Language.{Language}
-use Rattle.dcv_language.specs.Table.{Table, table_accepts, automaton_of}
 use Rattle.std.specs.List.{All}
-use Rattle.dcv_language.specs.Limits.{most_states, most_nodes}
-use Rattle.dcv_synth.specs.Control.{ControlValue, controller_by}
-use Rattle.dcv_synth.specs.Game.{Wins}
-use Rattle.dcv_synth.specs.Laws.{HeldStatesAreNotBeaten, UnbeatenStatesAreWin, UnbeatenStatesAreHeld, ControlsWin, StrategiesBeat, WinsOverSameBehaviours, BeatsOverSameBehaviours, HasUnit, UnitsKeepTheRules, UnitsWin}
-use Rattle.dcv_synth.specs.Moves.{input_at}
-use Rattle.dcv_synth.specs.Outcome.{IsUnrealisable}
-use Rattle.dcv_synth.specs.Play.{environment_of}
-use Rattle.dcv_synth.specs.Units.{unit_of, controller_in}
-use Rattle.dcv_synth.specs.declared.strategy.Strategy.{Strategy}
-use Rattle.dcv_cli.specs.Outcome.{Outcome}
-use Rattle.dcv_cli.specs.declared.status.Status.TheVariants.{Valid, NotValid}
-use Rattle.dcv_cli.specs.Synthesis.{controller_text, strategy_text, SaysController, SaysStrategy, IsSynthesis, Realisable, Unrealisable}
+use Rattle.dcv_synth.specs.Laws.{HeldStatesAreNotBeaten, UnbeatenStatesAreWin, UnbeatenStatesAreHeld, HasUnit, UnitsKeepTheRules, UnitsWin}
+use Rattle.dcv_synth.specs.Units.{unit_of}
 use Rattle.dcv_quotient.proofs.SomeAutomata.{rows_of}
 use Rattle.dcv_existence.proofs.SomeControls.{IsControlFor, some_control}
 use Rattle.dcv_existence.proofs.SomeSyntheses.{some_synthesis}

@@ -1,46 +1,17 @@
 -- Each formula file that is within the limits has a right report of each kind: its models have a canonical automaton, and that has a text.
 --     some_budgeted    the report of a kind, or the outcome that names the first step that is over the limits
-use Rattle.std.proofs.Common.{◌≡◌, inl, inr, ℕ, List, [], length, refl, sym, ◌∙◌, arith}
-use Rattle.std.proofs.lemmas.List.{length-map}
-use Rattle.dcv_word.specs.Behaviour.{Word}
-use Rattle.dcv_language.specs.declared.count.Count.{Count}
-use Rattle.dcv_language.specs.Canonical.{IsCanonical}
-use Rattle.dcv_language.specs.Language.{HaveSameBehaviours}
-use Rattle.dcv_language.specs.Laws.{ComplementIsCanonical}
-use Rattle.dcv_language.specs.Table.{Table}
-use Rattle.dcv_language.specs.Verdict.{Verdict, IsVerdict}
-use Rattle.dcv_language.proofs.Words.{WordLaws}
-use Rattle.dcv_automaton_file.specs.Laws.{HasFile}
-use Rattle.dcv_automaton_text.specs.Rules.{AreNames}
-use Rattle.dcv_build.specs.Budget.{IsWithinBudget}
-use Rattle.dcv_build.specs.Counts.{AreCounts}
-use Rattle.dcv_build.specs.Laws.{MachineAcceptsStep}
-use Rattle.dcv_command.specs.Request.{AreInRange}
-use Rattle.dcv_dfa.specs.Raw.{RawValue, raw_accepts}
-use Rattle.dcv_explore.specs.declared.explorer.Limits.{Limits}
-use Rattle.dcv_logic.specs.Models.{models}
-use Rattle.dcv_print.specs.Counts.{ArePrintableCounts}
-use Rattle.dcv_print.specs.Laws.{PrintedIsAutomaton, FileSaysNode, FileSaysUnit, AutomatonOfSameBehaviours}
-use Rattle.dcv_print.specs.Printed.{texts_of}
-use Rattle.dcv_language.specs.declared.kind.Kind.{Kind}
-use Rattle.dcv_reader.specs.Laws.{NamesAreShort}
-use Rattle.dcv_scope.specs.CoreOf.{core_of_file}
-use Rattle.dcv_scope.specs.Laws.{WordsAreModels, StepsAreFew}
-use Rattle.dcv_syntax.specs.Plain.{PlainFile}
-use Rattle.dcv_cli.specs.Budget.{steps_of_file, IsBudgeted, WithinBudget}
-use Rattle.dcv_cli.specs.FormulaFile.{IsFormulaFile}
-use Rattle.dcv_cli.specs.Outcome.{Outcome}
-use Rattle.dcv_cli.specs.Report.{IsReport}
-use Rattle.dcv_cli.specs.Status.{status_of_verdict}
-use Rattle.dcv_cli.specs.declared.refused.Which.TheVariants.{Only}
+use Rattle.dcv_cli.proofs.Common.{◌≡◌, inl, inr, ℕ, List, [], length, refl, sym, ◌∙◌, arith, length-map, Word, Count, IsCanonical}
+use Rattle.dcv_cli.proofs.Common.{HaveSameBehaviours, ComplementIsCanonical, Table, Verdict, IsVerdict, WordLaws, HasFile, AreNames}
+use Rattle.dcv_cli.proofs.Common.{IsWithinBudget, AreCounts, MachineAcceptsStep, AreInRange, RawValue, raw_accepts, Limits, models}
+use Rattle.dcv_cli.proofs.Common.{ArePrintableCounts, PrintedIsAutomaton, FileSaysNode, FileSaysUnit, AutomatonOfSameBehaviours, texts_of}
+use Rattle.dcv_cli.proofs.Common.{Kind, NamesAreShort, core_of_file, WordsAreModels, StepsAreFew, PlainFile, steps_of_file, IsBudgeted}
+use Rattle.dcv_cli.proofs.Common.{WithinBudget, IsFormulaFile, Outcome, IsReport, status_of_verdict, Only, counts_within, some_verdict}
+use Rattle.dcv_cli.proofs.Common.{IsTableWithin}
 use Rattle.dcv_quotient.proofs.SomeAutomata.{some_automaton}
 use Rattle.dcv_cli.proofs.SomeBounds.{within_of_file}
-use Rattle.dcv_existence.proofs.SomeBudgets.{counts_within}
 use Rattle.dcv_cli.proofs.SomeReports.{table_of_file, over_or_within}
 use Rattle.dcv_cli.proofs.SomeTexts.{some_text}
-use Rattle.dcv_quotient.proofs.SomeVerdicts.{some_verdict}
 use Rattle.dcv_cli.proofs.StepCounts.{printable_counts}
-use Rattle.dcv_quotient.proofs.TableBounds.{IsTableWithin}
 use Rattle.dcv_cli.proofs.VariableNames.{are_names}
 
 -- an automaton of the models of a formula file, with their canonical table

@@ -2,67 +2,38 @@
 --     SomeReport         each formula file has a right report of each kind, or a step that is the first over the limits
 --     SomeSynthesis      each formula file has a right answer where a controller is asked for
 --     some_outcome       with both, all words have a right outcome
-use Rattle.std.proofs.Common.{◌≡◌, ◌⊎◌, inl, inr, ℕ, ◌≤◌, Bool, true, false, List, [], ◌∷◌, length, Option, None, Some, refl, sym, subst, ◌∙◌, arith}
-use Rattle.std.proofs.lemmas.Bool.Decides.{nat_tests}
-use Rattle.std.specs.Prelude.{IsSome, IsSomeAnd, nat_le}
+use Rattle.dcv_cli.proofs.Common.{◌≡◌, ◌⊎◌, inl, inr, ℕ, ◌≤◌, Bool, true, false, List, [], ◌∷◌, length, Option, None, Some, refl, sym}
+use Rattle.dcv_cli.proofs.Common.{subst, ◌∙◌, arith, nat_tests, IsSomeAnd, nat_le, true≢false, PlainFile, AutomatonFile, HasForm}
+use Rattle.dcv_cli.proofs.Common.{MachineAcceptsStep, HasGoodWords, IsCertified, Answer, Minimal, Access, Pair, NoneWhereIncluded}
+use Rattle.dcv_cli.proofs.Common.{ComplementIsCanonical, line, WordLaws, Subset, Version, SomeVerdict, GoodLinesAreAnswered, fault_of_file}
+use Rattle.dcv_cli.proofs.Common.{WordsAreModels, ScopeFault, Refusal, Formula, Syntax, Usage, Done, IsRefusedAutomaton, HasNoForm}
+use Rattle.dcv_cli.proofs.Common.{BreaksARule, IsAutomatonText, OnAutomaton, IsBudgeted, IsCertificate, answer_words, status_of_answer}
+use Rattle.dcv_cli.proofs.Common.{IsCompared, IsConverted, as_version, IsReport, IsRefused, TooLong, Faulty, HasNoCore, IsSentence}
+use Rattle.dcv_cli.proofs.Common.{IsFormulaFile, OnText, Refused, Read, Texts, OnHeld, OnObserver, Outcome, refused, IsReplay, most_bytes}
+use Rattle.dcv_cli.proofs.Common.{most_automaton_bytes, refusal_of_reading, refusal_of_scope, Which, Only, First, Second, Limits, Kind}
+use Rattle.dcv_cli.proofs.Common.{Request, Report, Certify, Convert, Implies, Stuck, Synth, Replay, Sweep, AreInRange, IsTaken, request_of}
+use Rattle.dcv_cli.proofs.Common.{AsksFor, Fulfils, IsRight, Misused, Fulfilled, IsStuckReport, IsSynthesised}
+use Rattle.std.specs.Prelude.{IsSome}
 use Rattle.std.proofs.lemmas.List.Elements.{All-head, recursion_from_All}
-use mathlib.Core.Bool.{true≢false}
-use Rattle.dcv_syntax.specs.Plain.{PlainFile}
-use Rattle.dcv_automaton_text.specs.File.{AutomatonFile}
-use Rattle.dcv_automaton_text.specs.Form.{HasForm}
 use Rattle.dcv_automaton_text.specs.Rules.{first_broken, judged_words}
 use Rattle.dcv_automaton_text.specs.Spelled.{spelled}
-use Rattle.dcv_build.specs.Laws.{MachineAcceptsStep}
 use Rattle.dcv_c.specs.Laws.{SomeReading as SomeUnit}
-use Rattle.dcv_certify.specs.Certified.{HasFewestStates, HasGoodWords, IsCertified, WhereMinimal}
+use Rattle.dcv_certify.specs.Certified.{HasFewestStates, WhereMinimal}
 use Rattle.dcv_certify.specs.Laws.{MinimalShowsFewestStates, MinimalReachesEachState}
-use Rattle.dcv_certify.specs.declared.answer.Answer.{Answer}
-use Rattle.dcv_certify.specs.declared.answer.Answer.TheVariants.{Minimal, Access, Pair}
-use Rattle.dcv_implies.specs.Laws.{NoneWhereIncluded}
-use Rattle.dcv_language.specs.Laws.{ComplementIsCanonical}
-use Rattle.dcv_language.specs.VerdictText.{line}
-use Rattle.dcv_language.proofs.Words.{WordLaws}
-use Rattle.dcv_command.specs.declared.words.Subset.{Subset}
-use Rattle.dcv_command.specs.declared.words.Version.{Version}
 use Rattle.dcv_lustre.specs.Laws.{SomeReading as SomeNode}
 use Rattle.dcv_reader.specs.Laws.{SomeReading}
-use Rattle.dcv_replay.specs.Laws.{SomeVerdict, GoodLinesAreAnswered}
-use Rattle.dcv_scope.specs.Faults.{fault_of_file}
-use Rattle.dcv_scope.specs.Laws.{WordsAreModels}
-use Rattle.dcv_scope.specs.declared.faults.ScopeFault.{ScopeFault}
 use Rattle.dcv_stuck.specs.Laws.{NeverStuckGoesOn}
-use Rattle.dcv_cli.specs.declared.refusal.Refusal.{Refusal}
-use Rattle.dcv_cli.specs.declared.refusal.Refusal.TheVariants.{Formula, Automaton as AutomatonRefusal}
+use Rattle.dcv_cli.specs.declared.refusal.Refusal.TheVariants.{Automaton as AutomatonRefusal}
 use Rattle.dcv_cli.specs.declared.faults.FormulaFault.TheVariants.{Length}
-use Rattle.dcv_cli.specs.declared.faults.AutomatonFault.TheVariants.{Length as AutomatonLength, Syntax, Table}
-use Rattle.dcv_cli.specs.declared.status.Status.TheVariants.{Usage, Done}
-use Rattle.dcv_cli.specs.AutomatonFile.{IsRefusedAutomaton, TooLong as TooLongAutomaton, HasNoForm, BreaksARule, IsAutomatonText, OnAutomaton, Refused as RefusedAutomaton, Read as ReadAutomaton}
-use Rattle.dcv_cli.specs.Budget.{IsBudgeted}
-use Rattle.dcv_cli.specs.Certificate.{IsCertificate, answer_words, status_of_answer}
-use Rattle.dcv_cli.specs.Comparison.{IsCompared}
-use Rattle.dcv_cli.specs.Conversion.{IsConverted, as_version}
-use Rattle.dcv_cli.specs.Report.{IsReport}
-use Rattle.dcv_cli.specs.FormulaFile.{IsRefused, TooLong, Faulty, HasNoCore, IsSentence, IsFormulaFile, OnText, Refused, Read}
+use Rattle.dcv_cli.specs.declared.faults.AutomatonFault.TheVariants.{Length as AutomatonLength, Table}
+use Rattle.dcv_cli.specs.AutomatonFile.{TooLong as TooLongAutomaton, Refused as RefusedAutomaton, Read as ReadAutomaton}
 use Rattle.dcv_cli.specs.Laws.{AreHeld, SomeOutcome}
-use Rattle.dcv_cli.specs.Held.{Texts, OnHeld}
-use Rattle.dcv_cli.specs.ObserverFile.{OnObserver}
-use Rattle.dcv_cli.specs.Outcome.{Outcome, refused}
-use Rattle.dcv_cli.specs.Replayed.{IsReplay}
-use Rattle.dcv_cli.specs.Refusal.{most_bytes, most_automaton_bytes, refusal_of_reading, refusal_of_scope}
-use Rattle.dcv_cli.specs.declared.refused.Which.{Which}
-use Rattle.dcv_cli.specs.declared.refused.Which.TheVariants.{Only, First, Second}
 use Rattle.clap.specs.Words.{fault_of, subcommand_of, Kinds}
 use Rattle.dcv_command.specs.Laws.{TakenWordsAsk}
 use Rattle.dcv_command.specs.Program.{program}
-use Rattle.dcv_explore.specs.declared.explorer.Limits.{Limits}
-use Rattle.dcv_language.specs.declared.kind.Kind.{Kind}
 use Rattle.std.specs.List.{All}
-use Rattle.dcv_command.specs.Request.{Request, Report, Certify, Convert, Implies, Stuck, Synth, Replay, Sweep, AreInRange, AreInputsInRange, IsInRange, IsTaken, request_of, files_of}
+use Rattle.dcv_command.specs.Request.{AreInputsInRange, IsInRange, files_of}
 use Rattle.dcv_command.proofs.Ranges.{request_is_in_range}
-use Rattle.dcv_cli.specs.Request.{AsksFor}
-use Rattle.dcv_cli.specs.Right.{Fulfils, IsRight, Misused, Fulfilled}
-use Rattle.dcv_cli.specs.Stuck.{IsStuckReport}
-use Rattle.dcv_cli.specs.Synthesis.{IsSynthesised}
 use Rattle.dcv_automaton_lines.proofs.ReadForms.{some_form}
 use Rattle.dcv_cli.proofs.OneReplay.{some_replay}
 use Rattle.dcv_cli.proofs.SomeAnswers.{some_answer}

@@ -3,65 +3,34 @@
 --     over_or_within       the outcome that names the step, or all steps are within the limits
 --     some_sweep           the summary of formulas that are drawn
 --     some_comparison      what is said of two files, whether they are within or not
-use Rattle.std.proofs.Common.{◌≡◌, ◌⊎◌, ◌↔◌, inl, inr, ℕ, Bool, true, false, not, List, [], ◌∷◌, length, Option, None, Some, refl, sym, ap, ◌∙◌, subst}
-use Rattle.std.specs.Prelude.{is_none, is_some, IsTrue}
-use Rattle.std.specs.Option.{option_map}
+use Rattle.dcv_cli.proofs.Common.{◌≡◌, ◌⊎◌, ◌↔◌, inl, inr, ℕ, Bool, true, false, not, List, [], ◌∷◌, length, Option, None, Some, refl, sym}
+use Rattle.dcv_cli.proofs.Common.{ap, ◌∙◌, subst, is_none, is_some, IsTrue, option_map, false≢true, length-map, Word, accepts, IsCanonical}
+use Rattle.dcv_cli.proofs.Common.{Language, HaveSameBehaviours, ComplementIsCanonical, Table, automaton_of, IsLeastOf}
+use Rattle.dcv_cli.proofs.Common.{canonical_for_same_behaviours, WordLaws, PlainFile, models, CoreTree, words_of, PlainStep, core_of_file}
+use Rattle.dcv_cli.proofs.Common.{fault_of_file, fault_of_goal, WordsAreModels, fault_of_names, no_bound_shift, TooManyStates, TooManyNodes}
+use Rattle.dcv_cli.proofs.Common.{Limits, IsWithinBudget, IsOver, MachineAcceptsStep, difference, IsIncluded, NoneWhereIncluded}
+use Rattle.dcv_cli.proofs.Common.{summary_text, texts_of, Excess, States, Nodes, Over, Declarations, Budget, Formula, Product, Which, Only}
+use Rattle.dcv_cli.proofs.Common.{First, Second, Done, steps_of_file, kind_of, limit_of, IsFirstOver, IsBudgeted, OverBudget, WithinBudget}
+use Rattle.dcv_cli.proofs.Common.{compared, have_same_texts, IsDifference, OverProduct, WithinProduct, IsCompared, Undeclared, Declared}
+use Rattle.dcv_cli.proofs.Common.{Outcome, refused, default_limits, IsSwept, some_verdict}
 use Rattle.std.specs.List.{AllZip}
-use Rattle.std.proofs.lemmas.Bool.{false≢true}
-use Rattle.std.proofs.lemmas.List.{length-map}
-use Rattle.dcv_word.specs.Behaviour.{Word}
-use Rattle.dcv_language.specs.Automaton.{accepts}
-use Rattle.dcv_language.specs.Canonical.{IsCanonical}
 use Rattle.dcv_language.specs.Complement.{complement}
-use Rattle.dcv_language.specs.Language.{Language, outside, HaveSameBehaviours}
-use Rattle.dcv_language.specs.Laws.{ComplementIsCanonical}
+use Rattle.dcv_language.specs.Language.{outside}
 use Rattle.dcv_language.specs.OperationMachines.{and_machine}
 use Rattle.dcv_language.specs.Operations.{intersection}
-use Rattle.dcv_language.specs.Table.{Table, automaton_of}
-use Rattle.dcv_language.specs.Verdict.{IsLeastOf}
-use Rattle.dcv_language.proofs.Canonicals.{canonical_for_same_behaviours}
 use Rattle.dcv_language.proofs.OperationRuns.{and_accepts}
 use Rattle.dcv_language.proofs.OperationSets.{of_set}
 use Rattle.dcv_language.proofs.Sameness.{intersection_same}
-use Rattle.dcv_language.proofs.Words.{WordLaws}
-use Rattle.dcv_syntax.specs.Plain.{PlainFile}
-use Rattle.dcv_logic.specs.Models.{models}
-use Rattle.dcv_core.specs.Core.{CoreTree}
-use Rattle.dcv_core.specs.Holds.{words_of}
-use Rattle.dcv_core.specs.Steps.{PlainStep}
-use Rattle.dcv_scope.specs.CoreOf.{core_of_file}
-use Rattle.dcv_scope.specs.Faults.{fault_of_file, fault_of_goal}
-use Rattle.dcv_scope.specs.Laws.{WordsAreModels}
-use Rattle.dcv_scope.specs.Names.{fault_of_names}
-use Rattle.dcv_scope.proofs.Faulting.{no_bound_shift}
-use Rattle.dcv_explore.specs.Budget.{Kind, TooManyStates, TooManyNodes, Exceeds}
-use Rattle.dcv_explore.specs.declared.explorer.Limits.{Limits}
-use Rattle.dcv_build.specs.Budget.{IsWithinBudget, IsOver}
-use Rattle.dcv_build.specs.Laws.{MachineAcceptsStep}
+use Rattle.dcv_explore.specs.Budget.{Kind, Exceeds}
 use Rattle.dcv_sweep.specs.DrawnCores.{drawn_formulas}
-use Rattle.dcv_implies.specs.Comparison.{difference, IsIncluded, AreTablesOf, product}
-use Rattle.dcv_implies.specs.Laws.{NoneWhereIncluded}
+use Rattle.dcv_implies.specs.Comparison.{AreTablesOf, product}
 use Rattle.dcv_sweep.specs.Findings.{IsFinding, summary_of}
-use Rattle.dcv_sweep.specs.SummaryText.{summary_text}
 use Rattle.dcv_sweep.specs.declared.findings.Finding.{Finding}
 use Rattle.dcv_sweep.specs.declared.findings.Finding.TheVariants.{Over as FoundOver, Within as FoundWithin}
-use Rattle.dcv_print.specs.Printed.{texts_of}
-use Rattle.dcv_cli.specs.declared.budget_line.Excess.{Excess}
-use Rattle.dcv_cli.specs.declared.budget_line.Excess.TheVariants.{States, Nodes}
-use Rattle.dcv_cli.specs.declared.budget_line.Over.{Over}
-use Rattle.dcv_cli.specs.declared.faults.FormulaFault.TheVariants.{Declarations}
-use Rattle.dcv_cli.specs.declared.refusal.Refusal.TheVariants.{Budget, Formula, Product}
-use Rattle.dcv_cli.specs.declared.refused.Which.{Which}
-use Rattle.dcv_cli.specs.declared.refused.Which.TheVariants.{Only, First, Second}
-use Rattle.dcv_cli.specs.declared.status.Status.TheVariants.{Done}
-use Rattle.dcv_cli.specs.Budget.{steps_of_file, kind_of, limit_of, IsFirstOver, IsBudgeted, OverBudget, WithinBudget}
-use Rattle.dcv_cli.specs.Comparison.{compared, have_same_texts, IsDifference, OverProduct, WithinProduct, IsCompared, Undeclared, Declared}
-use Rattle.dcv_cli.specs.Outcome.{Outcome, refused}
-use Rattle.dcv_cli.specs.Swept.{default_limits, IsSwept}
 use Rattle.dcv_cli.proofs.Comparisons.{names_same, names_differ}
 use Rattle.dcv_quotient.proofs.RowLimits.{within_or_exceeds, table_of_row}
 use Rattle.dcv_existence.proofs.SomeBudgets.{some_budget, table_of_core}
-use Rattle.dcv_quotient.proofs.SomeVerdicts.{some_least, some_verdict}
+use Rattle.dcv_quotient.proofs.SomeVerdicts.{some_least}
 use Rattle.dcv_cli.proofs.VariableNames.{none_of_both}
 
 -- ---- the models of a file

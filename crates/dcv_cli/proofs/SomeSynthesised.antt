@@ -1,32 +1,16 @@
 -- Where a controller is asked for, each formula file has a right answer: its variables cannot be divided, a step is over the limits, or there is
 -- the controller or the strategy of what models it.
 --     some_synthesised      so there is one
-use Rattle.std.proofs.Common.{◌≡◌, ◌⊎◌, inl, inr, ℕ, ◌+◌, ◌-◌, ◌≤◌, Bool, true, false, List, length, take, None, refl, sym, subst, arith}
-use Rattle.std.proofs.lemmas.List.{length-map, length-take}
+use Rattle.dcv_cli.proofs.Common.{◌≡◌, ◌⊎◌, inl, inr, ℕ, ◌+◌, ◌-◌, ◌≤◌, Bool, true, false, List, length, take, None, refl, sym, subst}
+use Rattle.dcv_cli.proofs.Common.{arith, length-map, length-take, AreNames, Limits, IsWithinBudget, MachineAcceptsStep, IsCanonical}
+use Rattle.dcv_cli.proofs.Common.{WordLaws, models, fault_of_file, WordsAreModels, PlainFile, Name, most_states, most_nodes, Formula}
+use Rattle.dcv_cli.proofs.Common.{Outputs, Only, steps_of_file, IsBudgeted, WithinBudget, Outcome, refused, can_be_divided, IsSynthesisOf}
+use Rattle.dcv_cli.proofs.Common.{IsSynthesised, Undivided, Divided, IsTableWithin}
 use Rattle.dcv_automaton_file.specs.File.{texts_of}
-use Rattle.dcv_automaton_text.specs.Rules.{AreNames}
-use Rattle.dcv_explore.specs.declared.explorer.Limits.{Limits}
-use Rattle.dcv_build.specs.Budget.{IsWithinBudget}
-use Rattle.dcv_build.specs.Laws.{MachineAcceptsStep}
-use Rattle.dcv_language.specs.Canonical.{IsCanonical}
-use Rattle.dcv_language.proofs.Words.{WordLaws}
-use Rattle.dcv_logic.specs.Models.{models}
-use Rattle.dcv_scope.specs.Faults.{fault_of_file}
-use Rattle.dcv_scope.specs.Laws.{WordsAreModels}
-use Rattle.dcv_syntax.specs.Plain.{PlainFile}
-use Rattle.dcv_syntax.specs.declared.names.Name.{Name}
-use Rattle.dcv_language.specs.Limits.{most_states, most_nodes}
-use Rattle.dcv_cli.specs.declared.refusal.Refusal.TheVariants.{Formula}
-use Rattle.dcv_cli.specs.declared.faults.FormulaFault.TheVariants.{Outputs}
-use Rattle.dcv_cli.specs.declared.refused.Which.TheVariants.{Only}
-use Rattle.dcv_cli.specs.Budget.{steps_of_file, IsBudgeted, WithinBudget}
-use Rattle.dcv_cli.specs.Outcome.{Outcome, refused}
-use Rattle.dcv_cli.specs.Synthesis.{can_be_divided, IsSynthesisOf, IsSynthesised, Undivided, Divided}
 use Rattle.dcv_cli.proofs.SomeBounds.{within_of_file}
 use Rattle.dcv_cli.proofs.SomeControllers.{GameLaws, some_synthesis_of}
 use Rattle.dcv_cli.proofs.SomeReports.{table_of_file, over_or_within}
 use Rattle.dcv_cli.proofs.Syntheses.{AreDivided, divided, names_of_inputs, texts_of_some}
-use Rattle.dcv_quotient.proofs.TableBounds.{IsTableWithin}
 
 -- the inputs have as many names
 inputs_named : (n : ℕ) (names : List Name) → n ≤ length names → length (take n (texts_of names)) ≡ n

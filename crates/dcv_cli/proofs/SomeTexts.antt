@@ -1,35 +1,18 @@
 -- An automaton that has a file has a right text of each kind: of the canonical automaton itself, of its observers, and of all.
 --     some_text      the text of a kind, for a set of behaviours that the automaton accepts
-use Rattle.std.proofs.Common.{◌≡◌, ℕ, List, [], refl, sym, subst}
-use Rattle.dcv_language.specs.declared.count.Count.{Count}
+use Rattle.dcv_cli.proofs.Common.{◌≡◌, ℕ, List, [], refl, sym, subst, Count, Language, HaveSameBehaviours, Verdict, verdict_text, WordLaws}
+use Rattle.dcv_cli.proofs.Common.{HasFile, AutomatonFile, unit_of, table_of_states, RawValue, raw_accepts, node_of, ArePrintableCounts}
+use Rattle.dcv_cli.proofs.Common.{PrintedIsAutomaton, FileSaysNode, FileSaysUnit, AutomatonOfSameBehaviours, IsFileOf, SaysNode, SaysUnit}
+use Rattle.dcv_cli.proofs.Common.{printed_file, all_text, Kind, Check, Automaton, Lustre, C, All, SaysAutomaton, SaysAll, Says}
 use Rattle.dcv_language.specs.Certificate.{IsCertificate}
-use Rattle.dcv_language.specs.Language.{Language, HaveSameBehaviours}
-use Rattle.dcv_language.specs.Verdict.{Verdict}
-use Rattle.dcv_language.specs.VerdictText.{verdict_text}
 use Rattle.dcv_language.specs.declared.certificate.Access.{Access}
 use Rattle.dcv_language.specs.declared.certificate.Suffix.{Suffix}
-use Rattle.dcv_language.proofs.Words.{WordLaws}
 use Rattle.dcv_automaton_file.specs.File.{file_of}
-use Rattle.dcv_automaton_file.specs.Laws.{HasFile}
-use Rattle.dcv_automaton_text.specs.File.{AutomatonFile}
 use Rattle.dcv_automaton_text.specs.Spelled.{spelled}
 use Rattle.dcv_c.specs.Layout as c
-use Rattle.dcv_c.specs.Observer.{observer_of as unit_of}
 use Rattle.dcv_certificate.specs.Proof.{IsProof}
-use Rattle.dcv_dfa.specs.Auto.{table_of_states}
-use Rattle.dcv_dfa.specs.Raw.{RawValue, raw_accepts}
 use Rattle.dcv_lustre.specs.Layout as lustre
-use Rattle.dcv_lustre.specs.Observer.{observer_of as node_of}
 use Rattle.dcv_print.specs.Automaton.{IsAutomatonOf}
-use Rattle.dcv_print.specs.Counts.{ArePrintableCounts}
-use Rattle.dcv_print.specs.Laws.{PrintedIsAutomaton, FileSaysNode, FileSaysUnit, AutomatonOfSameBehaviours}
-use Rattle.dcv_print.specs.Observers.{IsFileOf, SaysNode, SaysUnit}
-use Rattle.dcv_print.specs.Printed.{printed_file}
-use Rattle.dcv_print.specs.Sections.{all_text}
-use Rattle.dcv_language.specs.declared.kind.Kind.{Kind}
-use Rattle.dcv_language.specs.declared.kind.Kind.TheVariants.{Check, Automaton, Lustre, C, All}
-use Rattle.dcv_cli.specs.Automaton.{SaysAutomaton}
-use Rattle.dcv_cli.specs.Report.{SaysAll, Says}
 use Rattle.dcv_quotient.proofs.SomeCertificates.{some_certificate_of}
 use Rattle.dcv_existence.proofs.SomeSpellings.{some_spellings, some_suffixes}
 

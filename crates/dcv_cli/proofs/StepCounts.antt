@@ -1,28 +1,15 @@
 -- What the steps of a formula file take, where all are within limits that may be asked for, may be printed.
-use Rattle.std.proofs.Common.{◌≡◌, inl, inr, refl, ℕ, zero, suc, ◌<◌, ◌≤◌, Bool, true, false, List, [], ◌∷◌, length, get_or, None, Some, slice_get, arith}
-use Rattle.std.specs.Prelude.{nat_le, if◌then◌else◌}
-use Rattle.std.proofs.lemmas.Bool.{cases_lt}
-use Rattle.std.proofs.lemmas.Bool.Decides.{nat_tests}
-use Rattle.std.proofs.lemmas.Option.{slice_get-get_or}
-use Rattle.dcv_language.specs.declared.count.Count.{Count}
-use Rattle.dcv_automaton_text.specs.Rules.{most_steps}
-use Rattle.dcv_build.specs.Budget.{row_at}
-use Rattle.dcv_build.specs.Counts.{HasAllCounts, AreCounts}
-use Rattle.dcv_command.specs.Request.{AreInRange}
-use Rattle.dcv_core.specs.Steps.{PlainStep}
-use Rattle.dcv_explore.specs.declared.explorer.Limits.{Limits}
-use Rattle.dcv_explore.specs.Budget.{Row, IsWithin, TooManyStates, TooManyNodes}
+use Rattle.dcv_cli.proofs.Common.{◌≡◌, inl, inr, refl, ℕ, zero, suc, ◌<◌, ◌≤◌, Bool, true, false, List, [], ◌∷◌, length, get_or, None, Some}
+use Rattle.dcv_cli.proofs.Common.{slice_get, arith, nat_le, if◌then◌else◌, cases_lt, nat_tests, slice_get-get_or, Count, most_steps, row_at}
+use Rattle.dcv_cli.proofs.Common.{AreCounts, AreInRange, PlainStep, Limits, TooManyStates, TooManyNodes, ArePrintableCounts, fault_of_goal}
+use Rattle.dcv_cli.proofs.Common.{fault_of_names, StepsAreFew, ScopeFault, PlainFile, steps_of_file, IsFormulaFile}
+use Rattle.dcv_build.specs.Counts.{HasAllCounts}
+use Rattle.dcv_explore.specs.Budget.{Row, IsWithin}
 use Rattle.dcv_explore.proofs.Budgets.{within_excludes_exceeding}
-use Rattle.dcv_print.specs.Counts.{IsPrintableCount, ArePrintableCounts}
-use Rattle.dcv_scope.specs.Faults.{above, fault_of_goal}
-use Rattle.dcv_scope.specs.Names.{fault_of_names}
-use Rattle.dcv_scope.specs.Laws.{StepsAreFew}
+use Rattle.dcv_print.specs.Counts.{IsPrintableCount}
+use Rattle.dcv_scope.specs.Faults.{above}
 use Rattle.dcv_scope.specs.Measures.{measure_of_file}
 use Rattle.dcv_scope.proofs.Faulting.{few_slots}
-use Rattle.dcv_scope.specs.declared.faults.ScopeFault.{ScopeFault}
-use Rattle.dcv_syntax.specs.Plain.{PlainFile}
-use Rattle.dcv_cli.specs.Budget.{steps_of_file}
-use Rattle.dcv_cli.specs.FormulaFile.{IsFormulaFile}
 use Rattle.dcv_places.proofs.StepSpans.{steps_begin_in_text}
 use Rattle.dcv_cli.proofs.VariableNames.{none_of_both}
 

@@ -1,48 +1,27 @@
 -- What is found where a controller is asked for is right for the sets whose automaton it is, and for the file.
-use Rattle.std.proofs.Common.{◌≡◌, ◌≢◌, ℕ, ◌+◌, ◌-◌, ◌≤◌, List, length, refl, sym, ap, subst, arith, take}
-use Rattle.std.specs.Prelude.{IsTrue, IsFalse, nat_le}
+use Rattle.dcv_cli.proofs.Common.{◌≡◌, ◌≢◌, ℕ, ◌+◌, ◌-◌, ◌≤◌, List, length, refl, sym, ap, subst, arith, take, IsTrue, IsFalse, nat_le}
+use Rattle.dcv_cli.proofs.Common.{length-take, PlainFile, Name, models, Language, table_accepts, automaton_of as table_automaton, AreNames}
+use Rattle.dcv_cli.proofs.Common.{IsPlainName, RawValue, IsRaw, table_of_states, Limits, IsAutomatonOf, TextIsReadBack, text_of, CUnit}
+use Rattle.dcv_cli.proofs.Common.{ControlValue, IsControlOf, controller_by, Wins, ControlsWin, StrategiesBeat, WinsOverSameBehaviours}
+use Rattle.dcv_cli.proofs.Common.{BeatsOverSameBehaviours, input_at, IsUnrealisable, environment_of, controller_in, Strategy, WithinBudget}
+use Rattle.dcv_cli.proofs.Common.{IsJudged, refused, is_answer, can_be_divided, controller_text, strategy_text, SaysController}
+use Rattle.dcv_cli.proofs.Common.{SaysStrategy, IsSynthesis, IsSynthesised, Undivided, Divided, status_of_synthesis, Formula, Outputs, Only}
+use Rattle.dcv_cli.proofs.Common.{Judged}
 use Rattle.std.proofs.lemmas.Bool.{and_parts, leb-true}
-use Rattle.std.proofs.lemmas.List.{get_or-take, length-take, take-map}
+use Rattle.std.proofs.lemmas.List.{get_or-take, take-map}
 use Rattle.std.proofs.lemmas.List.Elements.{All-take}
-use Rattle.dcv_syntax.specs.Plain.{PlainFile}
-use Rattle.dcv_syntax.specs.declared.names.Name.{Name}
-use Rattle.dcv_logic.specs.Models.{models}
-use Rattle.dcv_language.specs.Language.{Language}
-use Rattle.dcv_language.specs.Table.{table_accepts, automaton_of as table_automaton}
 use Rattle.dcv_automaton_file.specs.File.{texts_of}
-use Rattle.dcv_automaton_text.specs.Rules.{AreNames, IsPlainName}
-use Rattle.dcv_dfa.specs.Raw.{RawValue, IsRaw, automaton_of}
-use Rattle.dcv_dfa.specs.Auto.{table_of_states}
-use Rattle.dcv_explore.specs.declared.explorer.Limits.{Limits}
-use Rattle.dcv_build.specs.Budget.{IsAutomatonOf}
+use Rattle.dcv_dfa.specs.Raw.{automaton_of}
 use Rattle.dcv_c.specs.Faults.{IsReadAs}
 use Rattle.dcv_c.specs.Form.{IsSpellable}
-use Rattle.dcv_c.specs.Laws.{TextIsReadBack}
-use Rattle.dcv_c.specs.Layout.{text_of}
 use Rattle.dcv_c.specs.Rules.{IsWellNamed}
-use Rattle.dcv_c.specs.Tree.{CUnit}
-use Rattle.dcv_synth.specs.Control.{ControlValue, IsControl, IsControlOf, controller_by}
-use Rattle.dcv_synth.specs.Game.{Wins}
-use Rattle.dcv_synth.specs.Laws.{ControlsOfLikeAutomata, ControlsWin, StrategiesBeat, StrategiesOfLikeAutomata, TablesGoOnAlike, WinsOverSameBehaviours, BeatsOverSameBehaviours}
-use Rattle.dcv_synth.specs.Moves.{input_at}
-use Rattle.dcv_synth.specs.Outcome.{IsUnrealisable}
-use Rattle.dcv_synth.specs.Play.{environment_of}
+use Rattle.dcv_synth.specs.Control.{IsControl}
+use Rattle.dcv_synth.specs.Laws.{ControlsOfLikeAutomata, StrategiesOfLikeAutomata, TablesGoOnAlike}
 use Rattle.dcv_synth.specs.SameSteps.{GoOnAlike}
-use Rattle.dcv_synth.specs.Units.{unit_of, controller_in}
-use Rattle.dcv_synth.specs.declared.strategy.Strategy.{Strategy}
-use Rattle.dcv_cli.specs.Budget.{NamesFirstOver, WithinBudget, OverBudget, steps_of_file}
-use Rattle.dcv_cli.specs.Judged.{IsJudged}
-use Rattle.dcv_cli.specs.Outcome.{IsExplained, refused}
-use Rattle.dcv_cli.specs.Status.{is_answer}
-use Rattle.dcv_cli.specs.Synthesis.{can_be_divided, controller_text, strategy_text, SaysController, SaysStrategy, IsSynthesis, IsSynthesised, Undivided, Divided}
-use Rattle.dcv_cli.specs.Synthesised.{status_of_synthesis, synthesised}
-use Rattle.dcv_cli.specs.declared.refusal.Refusal.{Refusal}
-use Rattle.dcv_cli.specs.declared.refusal.Refusal.TheVariants.{Budget, Formula, Memory}
-use Rattle.dcv_cli.specs.declared.faults.FormulaFault.TheVariants.{Outputs}
-use Rattle.dcv_cli.specs.declared.refused.Which.TheVariants.{Only}
-use Rattle.dcv_cli.specs.declared.judged.Judged.{Judged}
-use Rattle.dcv_cli.specs.declared.synthesising.Synthesis.{Synthesis}
-use Rattle.dcv_cli.specs.declared.synthesising.Synthesis.TheVariants.{Controller as FoundController, Strategy as FoundStrategy}
+use Rattle.dcv_synth.specs.Units.{unit_of}
+use Rattle.dcv_cli.specs.Synthesised.{synthesised}
+use Rattle.dcv_cli.specs.declared.synth.Synthesis.{Synthesis}
+use Rattle.dcv_cli.specs.declared.synth.Synthesis.TheVariants.{Controller as FoundController, Strategy as FoundStrategy}
 
 -- ---- how the variables are divided
 
@@ -141,20 +120,12 @@ module _ (inputs : ℕ) (limits : Limits) (file : PlainFile) where
   pub explains_undivided : IsFalse (can_be_divided inputs (length file.variables)) → IsSynthesised inputs limits file (refused (Formula Outputs) Only)
   explains_undivided not = Undivided not refl
 
-  -- a step that is over the limits is named
-  pub explains_divided : (refusal : Refusal) → IsTrue (can_be_divided inputs (length file.variables)) → NamesFirstOver (steps_of_file file) limits refusal
-      → IsExplained (IsSynthesised inputs limits file) Only refusal
-  explains_divided (Budget over) fits is = Divided fits (OverBudget over is refl)
-  explains_divided Memory fits is = tt
-  explains_divided _ fits is = absurd is
-
 -- what is found of its automaton
-pub found_of_file : (inputs : ℕ) (limits : Limits) (text : List ℕ) (judged : Judged) (found : Synthesis) (is : IsJudged text limits judged)
+pub found_of_file : (inputs : ℕ) (limits : Limits) (file : PlainFile) (judged : Judged) (found : Synthesis) → IsJudged file limits judged
     → IsTrue (can_be_divided inputs (length judged.names.items))
     → ((k : ℕ) (L : Language) → IsAutomatonOf k L judged.auto → IsSynthesis inputs (k - inputs) L (take inputs (texts_of judged.names.items)) (synthesised found))
-    → IsSynthesised inputs limits is.file (synthesised found)
-found_of_file inputs limits text judged found is fits each =
-    let file = is.file in
+    → IsSynthesised inputs limits file (synthesised found)
+found_of_file inputs limits file judged found is fits each =
     Divided (subst (λ (names : List Name). IsTrue (can_be_divided inputs (length names))) is.names fits)
     (WithinBudget is.within
     (subst (λ (names : List Name). IsSynthesis inputs (length file.variables - inputs) (models file) (take inputs (texts_of names)) (synthesised found)) is.names

@@ -1,29 +1,16 @@
 -- What a text says of a set: no two texts say the same, but for the suffixes of an automaton and what the steps took, and it is said of each
 -- set with the same behaviours.
-use Rattle.std.proofs.Common.{◌≡◌, ◌⊎◌, ℕ, List, [], ◌++◌, Some, inl, inr, sym, ap, ◌∙◌, subst, codes, append_assoc}
-use Rattle.std.specs.Prelude.{IsFalse}
-use Rattle.std.proofs.lemmas.List.{append-nil}
-use mathlib.Core.Bool.{true≢false}
-use Rattle.dcv_language.specs.Language.{Language, HaveSameBehaviours}
-use Rattle.dcv_language.specs.Verdict.{Verdict}
-use Rattle.dcv_language.specs.VerdictText.{verdict_text}
-use Rattle.dcv_automaton_text.specs.File.{AutomatonFile}
+use Rattle.dcv_cli.proofs.Common.{◌≡◌, ◌⊎◌, ℕ, List, [], ◌++◌, Some, inl, inr, sym, ap, ◌∙◌, subst, codes, append_assoc, IsFalse}
+use Rattle.dcv_cli.proofs.Common.{append-nil, true≢false, Language, HaveSameBehaviours, Verdict, verdict_text, AutomatonFile, unit_of}
+use Rattle.dcv_cli.proofs.Common.{node_of, Count, step_part_of, OneAutomaton, AutomatonOfSameBehaviours, FileOfSameBehaviours, FileSaysNode}
+use Rattle.dcv_cli.proofs.Common.{FileSaysUnit, SaysNode, SaysUnit, all_text, Kind, Check, Automaton, Lustre, C, All, SaysAutomaton, Says}
+use Rattle.dcv_cli.proofs.Common.{SaysAll}
 use Rattle.dcv_automaton_text.specs.Spelled.{spelled}
 use Rattle.dcv_c.specs.Layout as c
-use Rattle.dcv_c.specs.Observer.{observer_of as unit_of}
 use Rattle.dcv_lustre.specs.Layout as lustre
-use Rattle.dcv_lustre.specs.Observer.{observer_of as node_of}
-use Rattle.dcv_language.specs.declared.count.Count.{Count}
 use Rattle.dcv_print.specs.Automaton.{IsAutomatonOf, AreSameUpToAccess, AreSameButForSuffixes, DifferInSuffixes, AgreeUpToAccess}
-use Rattle.dcv_automaton_read.specs.File.{step_part as step_part_of}
-use Rattle.dcv_print.specs.Laws.{OneAutomaton, AutomatonOfSameBehaviours, OneFile, FileOfSameBehaviours, FileSaysNode, FileSaysUnit}
-use Rattle.dcv_print.specs.Observers.{SaysNode, SaysUnit}
-use Rattle.dcv_print.specs.Sections.{all_text}
-use Rattle.dcv_language.specs.declared.kind.Kind.{Kind}
-use Rattle.dcv_language.specs.declared.kind.Kind.TheVariants.{Check, Automaton, Lustre, C, All}
-use Rattle.dcv_cli.specs.Automaton.{SaysAutomaton}
+use Rattle.dcv_print.specs.Laws.{OneFile}
 use Rattle.dcv_cli.specs.Outcome.{has_automaton}
-use Rattle.dcv_cli.specs.Report.{Says, SaysAll}
 
 -- ---- all in one
 

@@ -1,34 +1,23 @@
 -- What a run over a trace leads to, as the end of a command.
-use Rattle.std.proofs.Common.{◌≡◌, ◌≢◌, ◌⊎◌, ℕ, ◌<◌, ◌≤◌, Bool, true, false, List, [], ◌∷◌, ◌++◌, length, take, Option, None, Some, Result, Ok, Err, inl, inr, refl, sym, ap, subst, ◌∙◌, arith, append_assoc, length-append}
-use Rattle.std.proofs.lemmas.Bool.Decides.{nat_tests}
-use Rattle.std.proofs.lemmas.List.{append-nil}
+use Rattle.dcv_cli.proofs.Common.{◌≡◌, ◌≢◌, ◌⊎◌, ℕ, ◌<◌, ◌≤◌, Bool, true, false, List, [], ◌∷◌, ◌++◌, length, take, Some, Result, Ok, Err}
+use Rattle.dcv_cli.proofs.Common.{inl, inr, refl, sym, ap, subst, ◌∙◌, arith, append_assoc, length-append, nat_tests, append-nil, IfSome}
+use Rattle.dcv_cli.proofs.Common.{IsTrue, ◌-◌, Asks, held_of, RisesIf, Appends, AppendsPrefix, AppendsStrictPrefix, Word, SomeVerdict}
+use Rattle.dcv_cli.proofs.Common.{GoodLinesAreAnswered, Observer, width_of, KeepsTheRules, AreAnswers, good_letters, Line, TraceFault, Open}
+use Rattle.dcv_cli.proofs.Common.{Trace, Only, Done, Output, HasInputCause, NoneRises, Outcome, Outside, Performs, message_of, only}
+use Rattle.dcv_cli.proofs.Common.{status_of, IsReplay, fault_of_trace, status_of_trace, message_of_trace, FulfilsTrace, LeavesTrace}
+use Rattle.dcv_cli.proofs.Common.{LeavesOfTrace, OfOpen, OfRead}
 use Rattle.std.proofs.Math.Seq.{take-append_seam}
-use Rattle.std.specs.Prelude.{IfSome, IsTrue, nat_lt, ◌||◌, ◌==◌, ◌^◌, ◌-◌}
-use Rattle.dcv_io.specs.Asked.{Asks}
-use Rattle.dcv_io.specs.Disk.{Disk, held_of}
-use Rattle.dcv_io.specs.Faults.{RisesIf}
-use Rattle.dcv_io.specs.Written.{Appends, AppendsPrefix, AppendsStrictPrefix}
-use Rattle.dcv_word.specs.Behaviour.{Word}
-use Rattle.dcv_replay.specs.Laws.{SomeVerdict, LinesAreFront, AnswersOfFront, GoodLinesAreAnswered}
-use Rattle.dcv_replay.specs.Observer.{Observer, width_of, KeepsTheRules, AreAnswers}
+use Rattle.std.specs.Prelude.{nat_lt, ◌||◌, ◌==◌, ◌^◌}
+use Rattle.dcv_replay.specs.Laws.{LinesAreFront, AnswersOfFront}
 use Rattle.dcv_replay.specs.Program.{ReplayValue}
 use Rattle.dcv_replay.specs.Replayed.{HasLines, ReadCount, Replayed, is_open, is_write}
-use Rattle.dcv_replay.specs.TraceText.{Verdict, Good, Bad, Long, Nothing, HasVerdict, good_letters}
+use Rattle.dcv_replay.specs.TraceText.{Verdict, Good, Bad, Long, Nothing, HasVerdict}
 use Rattle.dcv_replay.specs.declared.fault.ReplayFault.{ReplayFault}
 use Rattle.dcv_replay.specs.declared.fault.ReplayFault.TheVariants as fault
-use Rattle.dcv_cli.specs.declared.faults.TraceFault.TheVariants.{Line, Empty, Length}
-use Rattle.dcv_cli.specs.declared.refusal.Refusal.TheVariants.{Open}
-use Rattle.dcv_cli.specs.declared.refused.Which.TheVariants.{Only}
-use Rattle.dcv_cli.specs.declared.status.Status.TheVariants.{Done, Output}
-use Rattle.dcv_cli.specs.Ending.{HasInputCause, NoneRises, OneRises}
-use Rattle.dcv_cli.specs.Held.{Texts, ForHeld, IsHeldText}
-use Rattle.dcv_cli.specs.Outcome.{Outcome}
-use Rattle.dcv_cli.specs.Outside.{Outside}
-use Rattle.dcv_cli.specs.Performed.{Performs}
-use Rattle.dcv_cli.specs.Refusal.{only, refusal_of_replay}
-use Rattle.dcv_cli.specs.Replayed.{IsReplay, fault_of_trace, status_of_trace, message_of_trace}
-use Rattle.dcv_cli.specs.Replaying.{FulfilsTrace, LeavesTrace, LeavesOfTrace, OfOpen, OfRead}
-use Rattle.dcv_cli.proofs.ThreeEnds.{fulfils_first, performs_refused, performs_sent, performs_broken, performs_cut, performs_at_fault}
+use Rattle.dcv_cli.specs.declared.faults.TraceFault.TheVariants.{Empty, Length}
+use Rattle.dcv_cli.specs.Ending.{OneRises}
+use Rattle.dcv_cli.specs.Refusal.{refusal_of_replay}
+use Rattle.dcv_cli.proofs.ThreeEnds.{ends_at_fault, ends_broken, ends_cut, ends_refused, ends_sent, for_any, for_text, fulfils_first}
 
 -- what a run over the trace of this name says of the counts
 pub record Counts {T : Type 0} (name : List ℕ) (result : Result T ReplayFault) (before after : Outside) : Type 0 where
@@ -47,15 +36,6 @@ output_cause opened opened' read read' same fell = by (nat_lt read read') refl w
   by : (more : Bool) → nat_lt read read' ≡ more → NoneRises opened opened' read read' ⊎ OneRises opened opened' read read'
   by true is = inr (inr (same, record { risen = risen (read' == (2 ^ 64 - 1)) is; no_lower = fell }))
   by false is = inl (same, grind (arith, nat_tests))
-
--- what holds of the text that is held under a name, of what is held
-for_text : (told : Option Disk) (name text : List ℕ) (P : Texts → Type 0) → IsHeldText told name text → ((held : Texts) → held 0 name ≡ Some text → P held) → ForHeld told P
-for_text None name text P there fact = record { held = λ time n. Some text; same = tt; holds = fact (λ time n. Some text) refl }
-for_text (Some disk) name text P there fact = record { held = λ time. disk.held; same = λ time. refl; holds = fact (λ time. disk.held) there }
-
-for_any : (told : Option Disk) (P : Texts → Type 0) → ((held : Texts) → P held) → ForHeld told P
-for_any None P fact = record { held = λ time n. None; same = tt; holds = fact (λ time n. None) }
-for_any (Some disk) P fact = record { held = λ time. disk.held; same = λ time. refl; holds = fact (λ time. disk.held) }
 
 module _ (observer : Observer) (name : List ℕ) (before after : Outside) where
   abbrev Right : Outcome → Type 0
@@ -87,9 +67,15 @@ module _ (observer : Observer) (name : List ℕ) (before after : Outside) where
       → Performs Right (LeavesTrace observer name) (name ∷ []) (Ok Done) before after
   performs_done done ran counts =
       let traced = ran.traced refl in
-      performs_sent Right (LeavesTrace observer name) (name ∷ []) before after Done ran.text
-      (right_for traced.trace (Good ran.letters) ran.text traced.there traced.verdict ran.answers) refl (written_whole ran refl) counts.faults
-      (record { asked = (1, counts.asked); opened = counts.opened; read = counts.read; held = counts.held })
+      record {
+        ends = ends_sent Right _ _ _ _ Done ran.text (right_for traced.trace (Good ran.letters) ran.text traced.there traced.verdict ran.answers) refl (written_whole ran refl) counts.faults;
+        left = tt;
+        asked = (1, counts.asked);
+        input = (counts.opened, counts.read);
+        opened = tt;
+        read = tt;
+        held = counts.held;
+      }
 
   -- a right report that goes on from these answers
   record GoesOn (text : List ℕ) : Type 0 where
@@ -138,40 +124,70 @@ module _ (observer : Observer) (name : List ℕ) (before after : Outside) where
     no_answers : (letters : Word) (text : List ℕ) → letters ≡ [] → AreAnswers observer [] letters text → text ≡ []
     no_answers letters text none answers = subst (λ (word : Word). AreAnswers observer [] word text) none answers
 
+    -- a fault of the trace
+    at_fault : (fault : TraceFault) (text : List ℕ) → Right (record { status = status_of (Trace fault); out = text; err = message_of (only (Trace fault)) })
+        → Appends before.written after.written text → after.faults ≡ before.faults → Asks (name ∷ []) before.asked after.asked → NoneRises before.open_faults after.open_faults before.read_faults after.read_faults
+        → held_of after.told ≡ held_of before.told → Performs Right (LeavesTrace observer name) (name ∷ []) (Err (only (Trace fault))) before after
+    at_fault fault text right written same asked none held = record {
+      ends = ends_at_fault Right _ _ _ _ fault text right written same;
+      left = tt;
+      asked = (1, asked);
+      input = none;
+      opened = tt;
+      read = tt;
+      held = held;
+    }
+
     pub performs_stopped : {T : Type 0} (why : ReplayFault) {replay : ReplayValue} → Ran {T = T} (Err why) replay → Counts {T = T} name (Err why) before after
         → Performs Right (LeavesTrace observer name) (name ∷ []) (Err (only (refusal_of_replay why))) before after
     performs_stopped fault.Open ran counts =
-        let none = no_answers ran.letters ran.text (ran.unopened refl) ran.answers in
-        performs_refused Right (LeavesTrace observer name) (name ∷ []) before after Open Only refl refl
-        (for_any before.told (λ held. LeavesOfTrace observer name (held 0 name) before after []) (λ held. OfOpen counts.asked counts.opened refl)) tt
-        (subst (λ (bytes : List ℕ). Appends before.written after.written bytes) none (written_whole ran refl)) counts.faults
-        (record { asked = (1, counts.asked); opened = counts.opened; read = counts.read; held = counts.held })
+        let silent = subst (λ (bytes : List ℕ). Appends before.written after.written bytes) (no_answers ran.letters ran.text (ran.unopened refl) ran.answers) (written_whole ran refl) in
+        record {
+          ends = ends_refused Right _ _ _ _ Open Only refl refl tt silent counts.faults;
+          left = ([], for_any before.told (λ held. LeavesOfTrace observer name (held 0 name) before after []) (λ held. OfOpen counts.asked counts.opened refl), silent);
+          asked = (1, counts.asked);
+          input = inl (counts.opened, counts.read);
+          opened = counts.opened.risen;
+          read = tt;
+          held = counts.held;
+        }
     performs_stopped fault.Read ran counts =
         let traced = ran.traced refl in
         let on = goes_on traced.trace ran.letters ran.text traced.there traced.verdict ran.answers in
         let written = written_whole ran refl in
-        performs_cut Right (LeavesTrace observer name) (name ∷ []) before after on.outcome ran.text on.right (up_to on.outcome ran.text on.rest on.is written)
-        (for_text before.told name traced.trace (λ held. LeavesOfTrace observer name (held 0 name) before after ran.text) traced.there
-        (λ held is. OfRead counts.asked counts.read traced.trace is (record { letters = ran.letters; cut = traced.cut; answers = ran.answers })))
-        written counts.faults (record { asked = (1, counts.asked); opened = counts.opened; read = counts.read; held = counts.held })
+        let left = for_text before.told name traced.trace (λ held. LeavesOfTrace observer name (held 0 name) before after ran.text) traced.there
+        (λ held is. OfRead counts.asked counts.read traced.trace is (record { letters = ran.letters; cut = traced.cut; answers = ran.answers })) in
+        record {
+          ends = ends_cut Right _ _ _ _ on.outcome on.right (up_to on.outcome ran.text on.rest on.is written) counts.faults;
+          left = (ran.text, left, written);
+          asked = (1, counts.asked);
+          input = inr (counts.opened, counts.read);
+          opened = tt;
+          read = counts.read.risen;
+          held = counts.held;
+        }
     performs_stopped (fault.Line line) ran counts =
         let traced = ran.traced refl in
-        performs_at_fault Right (LeavesTrace observer name) (name ∷ []) before after (Line line) ran.text
-        (right_for traced.trace (Bad ran.letters line) ran.text traced.there traced.verdict ran.answers) (written_whole ran refl) counts.faults
-        (record { asked = (1, counts.asked); opened = counts.opened; read = counts.read; held = counts.held })
+        at_fault (Line line) ran.text (right_for traced.trace (Bad ran.letters line) ran.text traced.there traced.verdict ran.answers)
+        (written_whole ran refl) counts.faults counts.asked (counts.opened, counts.read) counts.held
     performs_stopped fault.TooLong ran counts =
         let traced = ran.traced refl in
-        performs_at_fault Right (LeavesTrace observer name) (name ∷ []) before after Length ran.text
-        (right_for traced.trace (Long ran.letters) ran.text traced.there traced.verdict ran.answers) (written_whole ran refl) counts.faults
-        (record { asked = (1, counts.asked); opened = counts.opened; read = counts.read; held = counts.held })
+        at_fault Length ran.text (right_for traced.trace (Long ran.letters) ran.text traced.there traced.verdict ran.answers)
+        (written_whole ran refl) counts.faults counts.asked (counts.opened, counts.read) counts.held
     performs_stopped fault.Empty ran counts =
         let traced = ran.traced refl in
-        performs_at_fault Right (LeavesTrace observer name) (name ∷ []) before after Empty ran.text
+        at_fault Empty ran.text
         (right_for traced.trace Nothing ran.text traced.there traced.verdict.0 (no_answers ran.letters ran.text traced.verdict.1 ran.answers))
-        (written_whole ran refl) counts.faults (record { asked = (1, counts.asked); opened = counts.opened; read = counts.read; held = counts.held })
+        (written_whole ran refl) counts.faults counts.asked (counts.opened, counts.read) counts.held
     performs_stopped fault.Write ran counts =
         let traced = ran.traced refl in
         let on = goes_on traced.trace ran.letters ran.text traced.there traced.verdict ran.answers in
-        performs_broken Right (LeavesTrace observer name) (name ∷ []) before after on.outcome on.right
-        (missing on.outcome ran.text ran.sends.sent ran.left on.rest on.is ran.sends.all (ran.some refl) ran.sends.written) counts.faults
-        (output_cause before.open_faults after.open_faults before.read_faults after.read_faults counts.opened counts.read) (1, counts.asked) counts.held
+        record {
+          ends = ends_broken Right _ _ _ _ on.outcome on.right (missing on.outcome ran.text ran.sends.sent ran.left on.rest on.is ran.sends.all (ran.some refl) ran.sends.written) counts.faults;
+          left = tt;
+          asked = (1, counts.asked);
+          input = output_cause before.open_faults after.open_faults before.read_faults after.read_faults counts.opened counts.read;
+          opened = tt;
+          read = tt;
+          held = counts.held;
+        }

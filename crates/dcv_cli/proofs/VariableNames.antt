@@ -1,25 +1,18 @@
 -- The declared variables of a formula file may be the names of an automaton's variables.
-use Rattle.std.proofs.Common.{◌≡◌, ◌≢◌, ℕ, zero, suc, ◌+◌, ◌<◌, ◌≤◌, nat_le, Bool, true, false, List, [], ◌∷◌, ◌++◌, length, get_or, Option, Some, None, refl, sym, ◌∙◌, subst, arith, append_assoc, append-nil, length-append}
-use Rattle.std.specs.Prelude.{if◌then◌else◌}
+use Rattle.dcv_cli.proofs.Common.{◌≡◌, ◌≢◌, ℕ, zero, suc, ◌+◌, ◌<◌, ◌≤◌, nat_le, Bool, true, false, List, [], ◌∷◌, ◌++◌, length, get_or}
+use Rattle.dcv_cli.proofs.Common.{Option, Some, None, refl, sym, ◌∙◌, subst, arith, append_assoc, length-append, if◌then◌else◌, bytes_eq}
+use Rattle.dcv_cli.proofs.Common.{bytes_eq-Decides, true≢false, IsPlainName, AreNames, texts_of, NamesAreShort, fault_of_goal}
+use Rattle.dcv_cli.proofs.Common.{fault_of_names, ScopeFault, Name, PlainFile, IsFormulaFile}
+use Rattle.std.proofs.Common.{append-nil}
 use Rattle.std.specs.List.{All, AllPairs}
 use Rattle.std.specs.Option.{option_or}
-use Rattle.std.specs.Str.{bytes_eq}
 use Rattle.std.proofs.lemmas.Bool.{leb-false}
 use Rattle.std.proofs.lemmas.List.Elements.{All-map}
 use Rattle.std.proofs.lemmas.List.Quantifiers.{all_pairs_push}
-use Rattle.std.proofs.lemmas.Slice.Eq.{bytes_eq-Decides}
-use mathlib.Core.Bool.{true≢false}
-use Rattle.dcv_automaton_text.specs.Rules.{IsPlainName, AreNames}
-use Rattle.dcv_print.specs.Printed.{texts_of}
-use Rattle.dcv_reader.specs.Laws.{IsShortName, NamesAreShort}
+use Rattle.dcv_reader.specs.Laws.{IsShortName}
 use Rattle.dcv_scope.proofs.NameRows.{first_fault-append}
-use Rattle.dcv_scope.specs.Faults.{fault_of_goal}
-use Rattle.dcv_scope.specs.Names.{occurs, Declared, fault_at, first_fault, fault_of_names, stands_in, nothing_in_sight, occurrences_in_list}
-use Rattle.dcv_scope.specs.declared.faults.ScopeFault.{ScopeFault}
+use Rattle.dcv_scope.specs.Names.{occurs, Declared, fault_at, first_fault, stands_in, nothing_in_sight, occurrences_in_list}
 use Rattle.dcv_scope.specs.declared.faults.ScopeFault.TheVariants.{TooMany, Duplicate}
-use Rattle.dcv_syntax.specs.declared.names.Name.{Name}
-use Rattle.dcv_syntax.specs.Plain.{PlainFile}
-use Rattle.dcv_cli.specs.FormulaFile.{IsFormulaFile}
 
 -- ---- no fault of a list of variables
 

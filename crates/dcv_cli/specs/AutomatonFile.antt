@@ -2,16 +2,12 @@
 --     IsRefusedAutomaton text refusal   the text is no automaton's, for this reason
 --     IsAutomatonText text file         the text has the form, and its file keeps the table rules
 --     OnAutomaton text RightFor o       the outcomes that are right where a command is given this text
-use Rattle.std.specs.Prelude.{◌≡◌, ℕ, ◌<◌, ◌≤◌, List, length}
-use Rattle.dcv_automaton_text.specs.File.{AutomatonFile}
+use Rattle.dcv_cli.specs.Common.{◌≡◌, ℕ, ◌<◌, ◌≤◌, List, length, AutomatonFile, IsGood, Refusal, Length, Syntax, Table, Only}
 use Rattle.dcv_automaton_text.specs.Form.{HasForm, IsSyntaxFault}
-use Rattle.dcv_automaton_text.specs.Rules.{IsGood, IsTableFault}
-use Rattle.dcv_cli.specs.declared.refusal.Refusal.{Refusal}
+use Rattle.dcv_automaton_text.specs.Rules.{IsTableFault}
 use Rattle.dcv_cli.specs.declared.refusal.Refusal.TheVariants.{Automaton}
-use Rattle.dcv_cli.specs.declared.faults.AutomatonFault.TheVariants.{Length, Syntax, Table}
 use Rattle.dcv_cli.specs.Outcome.{Outcome, refused}
 use Rattle.dcv_cli.specs.Refusal.{most_automaton_bytes}
-use Rattle.dcv_cli.specs.declared.refused.Which.TheVariants.{Only}
 
 -- It is longer than such a text may be; or its bytes begin no text of the form from some place on; or it has the form, and its file breaks
 -- one of the table rules.

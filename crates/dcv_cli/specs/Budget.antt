@@ -7,23 +7,17 @@
 --     IsFaultOver steps limits fault  this is the first of these steps that is over the limits
 --     IsBudgeted limits which Right ..
 --                                     the outcome names the first step over the limits, or there is none and it is right otherwise
-use Rattle.std.specs.Prelude.{◌≡◌, ℕ, ◌<◌, List, Some, length, slice_get}
+use Rattle.dcv_cli.specs.Common.{◌≡◌, ℕ, ◌<◌, List, Some, length, PlainFile, Limits, IsOver, IsWithinBudget, Excess, States, Nodes, Over}
+use Rattle.dcv_cli.specs.Common.{Refusal, Budget, Which}
+use Rattle.std.specs.Prelude.{slice_get}
 use Rattle.std.specs.Option.{option_map}
-use Rattle.dcv_syntax.specs.Plain.{PlainFile}
 use Rattle.dcv_scope.specs.CoreOf.{core_of_file}
 use Rattle.dcv_core.specs.Steps.{PlainStep, PlainCore, steps_of}
-use Rattle.dcv_explore.specs.declared.explorer.Limits.{Limits}
 use Rattle.dcv_explore.specs.Budget.{Kind, TooManyStates, TooManyNodes}
-use Rattle.dcv_build.specs.Budget.{IsOver, IsWithinBudget}
 use Rattle.dcv_build.specs.declared.faults.BuildFault.{BuildFault}
 use Rattle.dcv_build.specs.declared.faults.BuildFault.TheVariants.{States as OverStates, Nodes as OverNodes, Memory as NoMemory}
-use Rattle.dcv_cli.specs.declared.budget_line.Excess.{Excess}
-use Rattle.dcv_cli.specs.declared.budget_line.Excess.TheVariants.{States, Nodes}
-use Rattle.dcv_cli.specs.declared.budget_line.Over.{Over}
-use Rattle.dcv_cli.specs.declared.refusal.Refusal.{Refusal}
-use Rattle.dcv_cli.specs.declared.refusal.Refusal.TheVariants.{Budget, Memory}
+use Rattle.dcv_cli.specs.declared.refusal.Refusal.TheVariants.{Memory}
 use Rattle.dcv_cli.specs.Outcome.{Outcome, refused}
-use Rattle.dcv_cli.specs.declared.refused.Which.{Which}
 
 abbrev pub steps_of_file : PlainFile → List PlainStep
 steps_of_file file = steps_of (length file.variables) (core_of_file file)

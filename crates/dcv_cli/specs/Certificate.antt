@@ -1,17 +1,10 @@
 -- What is right where it is asked whether the words of an automaton's text show that it is minimal.
 --     answer_words states answer      what is said of an automaton with so many states, as `certified 3`
 --     IsCertificate file outcome      the outcome says so of the file
---     IsCertifiedText ..              for proofs alone
-use Rattle.std.specs.Prelude.{◌≡◌, ℕ, List, [], ◌++◌, codes}
-use Rattle.std.specs.Fmt.{decimal}
-use Rattle.dcv_automaton_text.specs.File.{AutomatonFile}
+use Rattle.dcv_cli.specs.Common.{◌≡◌, ℕ, List, [], ◌++◌, codes, decimal, AutomatonFile, line, Status, Done, NotValid}
 use Rattle.dcv_certify.specs.Certified.{IsCertified, HasFewestStates, HasGoodWords, WhereMinimal}
 use Rattle.dcv_certify.specs.declared.answer.Answer.{Answer}
 use Rattle.dcv_certify.specs.declared.answer.Answer.TheVariants.{Minimal, Access, Pair}
-use Rattle.dcv_language.specs.VerdictText.{line}
-use Rattle.dcv_cli.specs.declared.status.Status.{Status}
-use Rattle.dcv_cli.specs.declared.status.Status.TheVariants.{Done, NotValid}
-use Rattle.dcv_cli.specs.AutomatonFile.{IsAutomatonText}
 use Rattle.dcv_cli.specs.Outcome.{Outcome}
 
 abbrev pub answer_words : ℕ → Answer → List ℕ
@@ -33,12 +26,3 @@ pub record IsCertificate (file : AutomatonFile) (outcome : Outcome) : Type 0 whe
   pub status : outcome.status ≡ status_of_answer answer
   pub says : outcome.out ≡ line (answer_words file.states answer)
   pub no_message : outcome.err ≡ []
-
--- for proofs alone: the text is that of an automaton with so many states, whose answer this is
-pub record IsCertifiedText (text : List ℕ) (states : ℕ) (answer : Answer) : Type 0 where
-  pub file : AutomatonFile
-  pub spelled : IsAutomatonText text file
-  pub count : states ≡ file.states
-  pub certified : IsCertified file answer
-  pub fewest : WhereMinimal (HasFewestStates file) answer
-  pub reached : WhereMinimal (HasGoodWords file) answer

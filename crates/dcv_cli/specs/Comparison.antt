@@ -1,32 +1,21 @@
 -- What is right where it is asked whether the requirement of one formula file implies that of another.
 --     comparison_text least               what is said, by the least behaviour that models the first and not the second
 --     IsDifference limits one other o     the outcome says so of two files over the same variables, or that their product is over the limits
---     FulfilsSecond limits one name ..    the same for the second file, by its name
 --     LeavesComparison first second ..    what was written where an input failed
 --     have_same_texts                     for proofs alone
 --     IsCompared limits one other o       they have the same variables, both are within the limits, and so it is; or the outcome says what is not
-use Rattle.std.specs.Prelude.{◌≡◌, ◌≢◌, ◌↔◌, ℕ, Bool, true, false, ◌&&◌, List, [], ◌∷◌, ◌++◌, Option, None, Some, length, codes}
+use Rattle.dcv_cli.specs.Common.{◌≡◌, ◌≢◌, ◌↔◌, ℕ, Bool, true, false, ◌&&◌, List, [], ◌∷◌, ◌++◌, Option, None, Some, length, codes, Word}
+use Rattle.dcv_cli.specs.Common.{PlainFile, models, IsLeastOf, line, Limits, texts_of, Excess, Formula, Product, Declarations, Only, First}
+use Rattle.dcv_cli.specs.Common.{Second, Asks}
 use Rattle.std.specs.Str.{bytes_eq}
-use Rattle.dcv_word.specs.Behaviour.{Word}
-use Rattle.dcv_syntax.specs.Plain.{PlainFile}
-use Rattle.dcv_logic.specs.Models.{models}
-use Rattle.dcv_language.specs.Verdict.{IsLeastOf}
-use Rattle.dcv_language.specs.VerdictText.{line, shown}
-use Rattle.dcv_explore.specs.declared.explorer.Limits.{Limits}
+use Rattle.dcv_language.specs.VerdictText.{shown}
 use Rattle.dcv_implies.specs.Comparison.{difference, IsIncluded, IsProductWithin, IsProductOver}
-use Rattle.dcv_print.specs.Printed.{texts_of}
-use Rattle.dcv_cli.specs.declared.budget_line.Excess.{Excess}
-use Rattle.dcv_cli.specs.declared.refusal.Refusal.TheVariants.{Formula, Product}
-use Rattle.dcv_cli.specs.declared.faults.FormulaFault.TheVariants.{Declarations}
-use Rattle.dcv_cli.specs.declared.refused.Which.TheVariants.{Only, First, Second}
 use Rattle.dcv_cli.specs.Budget.{IsBudgeted, kind_of, limit_of}
-use Rattle.dcv_cli.specs.FormulaFile.{IsFormulaFile, OnText}
-use Rattle.dcv_cli.specs.Held.{Texts, OnHeld, ForHeld}
+use Rattle.dcv_cli.specs.FormulaFile.{IsFormulaFile}
+use Rattle.dcv_cli.specs.Held.{Texts}
 use Rattle.dcv_cli.specs.Outcome.{Outcome, refused}
 use Rattle.dcv_cli.specs.Outside.{Outside}
 use Rattle.dcv_cli.specs.Status.{status_of_least}
-use Rattle.dcv_io.specs.Asked.{Asks}
-use Rattle.dcv_io.specs.Disk.{Disk}
 
 abbrev pub comparison_text : Option Word → List ℕ
 comparison_text None = line (codes "implies")
@@ -54,10 +43,6 @@ pub data IsCompared (limits : Limits) (one other : PlainFile) (outcome : Outcome
   Declared : texts_of one.variables ≡ texts_of other.variables
       → IsBudgeted limits First (λ first. IsBudgeted limits Second (IsDifference limits first) other) one outcome → IsCompared limits one other outcome
 
--- that is right for the second file, which is held under the name
-abbrev pub FulfilsSecond : Limits → PlainFile → List ℕ → Option Disk → Outcome → Type 0
-FulfilsSecond limits one name told outcome = ForHeld told (λ held. OnHeld (held 0) name (λ text. OnText text Second (IsCompared limits one)) outcome)
-
 -- ---- where an input failed
 
 -- a formula file without a fault is held
@@ -72,11 +57,6 @@ pub data LeavesComparison (first second : List ℕ) (held : Texts) (before after
   OfFirst : Asks (first ∷ []) before.asked after.asked → bytes ≡ [] → LeavesComparison first second held before after bytes
   OfSecond : Asks (first ∷ second ∷ []) before.asked after.asked → HasFormula (held 0 first) → bytes ≡ []
       → LeavesComparison first second held before after bytes
-
--- the same for the second file alone
-pub record LeavesSecond (second : List ℕ) (before after : Outside) (bytes : List ℕ) : Type 0 where
-  pub asked : Asks (second ∷ []) before.asked after.asked
-  pub none : bytes ≡ []
 
 -- for proofs alone: whether two lists of texts are the same
 abbrev pub have_same_texts : List (List ℕ) → List (List ℕ) → Bool

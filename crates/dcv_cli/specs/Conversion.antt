@@ -2,16 +2,9 @@
 --     as_version to file               the file in this version
 --     IsConverted to file outcome      the outcome is its text
 --     conversion_text pieces           for proofs alone
---     IsConvertedText text to written  for proofs alone
-use Rattle.std.specs.Prelude.{◌≡◌, ℕ, List, [], ◌++◌}
-use Rattle.dcv_automaton_text.specs.File.{AutomatonFile}
-use Rattle.dcv_automaton_text.specs.Spelled.{spelled}
+use Rattle.dcv_cli.specs.Common.{◌≡◌, ℕ, List, [], ◌++◌, AutomatonFile, spelled, Version, One, Two, Done}
 use Rattle.dcv_automaton_text.specs.Versions.{first_version, second_version}
-use Rattle.dcv_command.specs.declared.words.Version.{Version}
-use Rattle.dcv_command.specs.declared.words.Version.TheVariants.{One, Two}
-use Rattle.dcv_cli.specs.declared.converting.Conversion.{Conversion}
-use Rattle.dcv_cli.specs.declared.status.Status.TheVariants.{Done}
-use Rattle.dcv_cli.specs.AutomatonFile.{IsAutomatonText}
+use Rattle.dcv_cli.specs.declared.convert.Conversion.{Conversion}
 use Rattle.dcv_cli.specs.Outcome.{Outcome}
 
 abbrev pub as_version : Version → AutomatonFile → AutomatonFile
@@ -26,9 +19,3 @@ pub record IsConverted (to : Version) (file : AutomatonFile) (outcome : Outcome)
 -- for proofs alone: what the pieces are together
 abbrev pub conversion_text : Conversion → List ℕ
 conversion_text pieces = pieces.head.now ++ (pieces.said.now ++ pieces.end.now)
-
--- for proofs alone: the text is that of an automaton, and this is written of it in the version
-pub record IsConvertedText (text : List ℕ) (to : Version) (written : List ℕ) : Type 0 where
-  pub file : AutomatonFile
-  pub is : IsAutomatonText text file
-  pub says : written ≡ spelled (as_version to file)

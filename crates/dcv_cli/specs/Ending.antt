@@ -6,19 +6,16 @@
 --     AsksFrontOf words ..     which files were asked for
 --     HasInputCause ..         what the counts of the files say
 --     Tells, TellsCause        what is on the messages
-use Rattle.std.specs.Prelude.{◌≡◌, ◌⊎◌, ℕ, Bool, true, false, List, [], Option, IsTrue, IsFalse}
-use Rattle.std.specs.Bool.{OnTrue}
-use Rattle.dcv_io.specs.Asked.{Asks, AsksPrefix}
-use Rattle.dcv_io.specs.Faults.{has_risen, Rises}
-use Rattle.dcv_io.specs.Written.{Appends, AppendsPrefix, AppendsStrictPrefix}
-use Rattle.dcv_command.specs.Request.{Request, Implies, Replay, files_of}
-use Rattle.dcv_cli.specs.declared.refusal.Refusal.TheVariants.{Open, Read, Write, Memory as OutOfMemory}
-use Rattle.dcv_cli.specs.declared.status.Status.{Status}
-use Rattle.dcv_cli.specs.declared.status.Status.TheVariants.{Input, Output, Memory}
+use Rattle.dcv_cli.specs.Common.{◌≡◌, ◌⊎◌, ℕ, Bool, List, [], ◌∷◌, Option, IsTrue, IsFalse, OnTrue, Asks, AsksPrefix, has_risen, Rises}
+use Rattle.dcv_cli.specs.Common.{Appends, AppendsStrictPrefix, Request, Report, Certify, Convert, Implies, Stuck, Synth, Replay, Sweep}
+use Rattle.dcv_cli.specs.Common.{files_of, Open, Read, Write, Status, Input, Output, Memory}
+use Rattle.dcv_io.specs.Written.{AppendsPrefix}
+use Rattle.dcv_cli.specs.declared.refusal.Refusal.TheVariants.{Memory as OutOfMemory}
 use Rattle.dcv_cli.specs.Comparison.{LeavesComparison}
 use Rattle.dcv_cli.specs.Outcome.{Outcome}
 use Rattle.dcv_cli.specs.Outside.{Outside}
 use Rattle.dcv_cli.specs.Refusal.{message_of, only}
+use Rattle.dcv_cli.specs.Status.{has_cause}
 use Rattle.dcv_cli.specs.Request.{AsksFor}
 use Rattle.dcv_cli.specs.Held.{Texts, ForHeld}
 use Rattle.dcv_cli.specs.Replayed.{LeavesAnswers}
@@ -41,12 +38,22 @@ AddsFront Right old new = Appends old new [] ⊎ ((outcome : Outcome) × Right o
 abbrev pub StopsWithin : (Outcome → Type 0) → Option (List ℕ) → Option (List ℕ) → Type 0
 StopsWithin Right old new = (outcome : Outcome) × Right outcome × AppendsStrictPrefix old new outcome.out
 
+-- the one file was asked for, and nothing was written
+pub record LeavesNothing (name : List ℕ) (before after : Outside) (bytes : List ℕ) : Type 0 where
+  pub asked : Asks (name ∷ []) before.asked after.asked
+  pub none : bytes ≡ []
+
 -- What a run of the request has written where an input failed: nothing, but of a replay the answers up to there. A second file is asked for
 -- after a first without a fault alone.
 abbrev pub Leaves : Request → Texts → Outside → Outside → List ℕ → Type 0
-Leaves (Replay subset observer trace) held before after bytes = LeavesAnswers subset observer trace held before after bytes
+Leaves (Report kind name limits) held before after bytes = LeavesNothing name before after bytes
+Leaves (Certify name) held before after bytes = LeavesNothing name before after bytes
+Leaves (Convert name to) held before after bytes = LeavesNothing name before after bytes
+Leaves (Stuck name limits) held before after bytes = LeavesNothing name before after bytes
+Leaves (Synth name inputs limits) held before after bytes = LeavesNothing name before after bytes
 Leaves (Implies first second limits) held before after bytes = LeavesComparison first second held before after bytes
-Leaves _ held before after bytes = bytes ≡ []
+Leaves (Replay subset observer trace) held before after bytes = LeavesAnswers subset observer trace held before after bytes
+Leaves (Sweep seed count) held before after bytes = bytes ≡ []
 
 -- that is what was added to the output, for the request of the words
 pub record LeavesOver (words : List (List ℕ)) (before after : Outside) : Type 0 where
@@ -91,12 +98,6 @@ NamesCause Input open_risen read_risen message =
 NamesCause Output open_risen read_risen message = message ≡ message_of (only Write)
 NamesCause Memory open_risen read_risen message = message ≡ message_of (only OutOfMemory)
 NamesCause _ open_risen read_risen message = ⊥
-
-abbrev pub has_cause : Status → Bool
-has_cause Input = true
-has_cause Output = true
-has_cause Memory = true
-has_cause _ = false
 
 -- such a message was told, or a front of it
 abbrev pub TellsCause : Status → Bool → Bool → Option (List ℕ) → Option (List ℕ) → ℕ → ℕ → Type 0

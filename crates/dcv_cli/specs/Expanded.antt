@@ -5,21 +5,15 @@
 --     IsExpandedIn told name expanded  it is held under the name
 --     IsRefusedFile told name refusal  what is held under the name is no formula file
 --     IsBuilt file limits auto         the automaton is the file's, and all its steps are within the limits
-use Rattle.std.specs.Prelude.{◌≡◌, ◌≤◌, ℕ, List, Option, length, map}
-use Rattle.dcv_io.specs.Disk.{Disk}
-use Rattle.dcv_syntax.specs.Plain.{PlainFile}
-use Rattle.dcv_logic.specs.Models.{models}
+use Rattle.dcv_cli.specs.Common.{◌≡◌, ◌≤◌, ℕ, List, Option, length, map, Disk, PlainFile, models, count_of_nodes, Limits, IsAutomatonOf}
+use Rattle.dcv_cli.specs.Common.{IsWithinBudget, Refusal}
 use Rattle.dcv_core.specs.Steps.{without_core}
-use Rattle.dcv_dfa.specs.Auto.{count_of_nodes}
 use Rattle.dcv_dfa.specs.Raw.{RawValue}
-use Rattle.dcv_explore.specs.declared.explorer.Limits.{Limits}
-use Rattle.dcv_build.specs.Budget.{IsAutomatonOf, IsWithinBudget}
 use Rattle.dcv_build.specs.Given.{IsCore}
 use Rattle.dcv_scope.specs.Laws.{HasNoBoundShift}
 use Rattle.dcv_cli.specs.Budget.{steps_of_file}
 use Rattle.dcv_cli.specs.FormulaFile.{IsFormulaFile, IsRefused}
 use Rattle.dcv_cli.specs.Held.{IsHeldText}
-use Rattle.dcv_cli.specs.declared.refusal.Refusal.{Refusal}
 use Rattle.dcv_cli.specs.declared.expanded.Expanded.{Expanded}
 
 pub record IsExpanded (file : PlainFile) (expanded : Expanded) : Type 0 where

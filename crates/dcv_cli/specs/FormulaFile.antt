@@ -3,19 +3,13 @@
 --     IsSentence text file      the text has no fault, and spells the file
 --     IsFormulaFile text file   nor does the file have one, in its names or its goal
 --     OnText ..                 the outcomes that are right where a command is given this text
-use Rattle.std.specs.Prelude.{◌≡◌, ℕ, ◌<◌, ◌≤◌, List, None, Some, length}
-use Rattle.dcv_syntax.specs.Plain.{PlainFile}
+use Rattle.dcv_cli.specs.Common.{◌≡◌, ℕ, ◌<◌, ◌≤◌, List, None, Some, length, PlainFile, ReadFault, ScopeFault, Refusal, Formula, Which}
 use Rattle.dcv_sentence.specs.Faults.{HasFault, IsFirstFault}
 use Rattle.dcv_reader.specs.Spelling.{Spells}
-use Rattle.dcv_sentence.specs.declared.faults.ReadFault.{ReadFault}
 use Rattle.dcv_scope.specs.Faults.{fault_of_file}
-use Rattle.dcv_scope.specs.declared.faults.ScopeFault.{ScopeFault}
-use Rattle.dcv_cli.specs.declared.refusal.Refusal.{Refusal}
-use Rattle.dcv_cli.specs.declared.refusal.Refusal.TheVariants.{Formula}
 use Rattle.dcv_cli.specs.declared.faults.FormulaFault.TheVariants.{Length}
 use Rattle.dcv_cli.specs.Outcome.{Outcome, refused}
 use Rattle.dcv_cli.specs.Refusal.{most_bytes, refusal_of_reading, refusal_of_scope}
-use Rattle.dcv_cli.specs.declared.refused.Which.{Which}
 
 pub record IsSentence (text : List ℕ) (file : PlainFile) : Type 0 where
   pub fits : length text ≤ most_bytes

@@ -1,38 +1,21 @@
 -- The promise of the program in one place: what a run of `all` says of a text. It is what `Right` says of that command, in the words of a user.
 --     AllIsSaid file outcome           a verdict, an automaton and two observers of exactly the behaviours that model the file
 --     IsAnswered text limits outcome   so it is said; or the text's first fault is named, or the first step that is over the limits
-use Rattle.std.specs.Prelude.{◌≡◌, ◌↔◌, ℕ, ◌≤◌, List, [], Some, length, map}
-use Rattle.dcv_syntax.specs.Plain.{PlainFile}
-use Rattle.dcv_logic.specs.Models.{models}
+use Rattle.dcv_cli.specs.Common.{◌≡◌, ◌↔◌, ℕ, ◌≤◌, List, [], Some, length, map, PlainFile, models, Verdict, IsLeastOf, verdict_text}
+use Rattle.dcv_cli.specs.Common.{AutomatonFile, IsGood, spelled, IsReadAsUnit, Limits, IsWithinBudget, texts_of, all_text, All, Report}
+use Rattle.dcv_cli.specs.Common.{Over, Refusal, Budget, Only, Valid, NotValid}
 use Rattle.dcv_language.specs.Certificate.{IsCertificate}
 use Rattle.dcv_language.specs.Language.{HasEvery, outside}
 use Rattle.dcv_language.specs.Table.{Table, IsTable, AcceptsExactly}
-use Rattle.dcv_language.specs.Verdict.{Verdict, IsLeastOf}
-use Rattle.dcv_language.specs.VerdictText.{verdict_text}
-use Rattle.dcv_automaton_text.specs.File.{AutomatonFile}
 use Rattle.dcv_automaton_text.specs.Form.{IsSpellable}
 use Rattle.dcv_automaton_text.specs.Meaning.{table_of, access_words_of, suffix_words_of}
-use Rattle.dcv_automaton_text.specs.Rules.{IsGood}
-use Rattle.dcv_automaton_text.specs.Spelled.{spelled}
 use Rattle.dcv_lustre.specs.Tree.{Node}
 use Rattle.dcv_lustre.specs.Faults.{IsReadAs as IsReadAsNode}
 use Rattle.dcv_lustre.specs.Observer.{input_names}
 use Rattle.dcv_lustre.specs.Laws.{Observes as ObservesByNode}
 use Rattle.dcv_c.specs.Tree.{CUnit}
-use Rattle.dcv_c.specs.Faults.{IsReadAs as IsReadAsUnit}
 use Rattle.dcv_c.specs.Observer.{parameter_name}
 use Rattle.dcv_c.specs.Laws.{Observes as ObservesByUnit}
-use Rattle.dcv_explore.specs.declared.explorer.Limits.{Limits}
-use Rattle.dcv_build.specs.Budget.{IsWithinBudget}
-use Rattle.dcv_print.specs.Printed.{texts_of}
-use Rattle.dcv_print.specs.Sections.{all_text}
-use Rattle.dcv_language.specs.declared.kind.Kind.TheVariants.{All}
-use Rattle.dcv_command.specs.Request.{Report}
-use Rattle.dcv_cli.specs.declared.budget_line.Over.{Over}
-use Rattle.dcv_cli.specs.declared.refusal.Refusal.{Refusal}
-use Rattle.dcv_cli.specs.declared.refusal.Refusal.TheVariants.{Budget}
-use Rattle.dcv_cli.specs.declared.refused.Which.TheVariants.{Only}
-use Rattle.dcv_cli.specs.declared.status.Status.TheVariants.{Valid, NotValid}
 use Rattle.dcv_cli.specs.Budget.{steps_of_file, IsFirstOver}
 use Rattle.dcv_cli.specs.FormulaFile.{IsRefused, IsFormulaFile}
 use Rattle.dcv_cli.specs.Held.{Texts}

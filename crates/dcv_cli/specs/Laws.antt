@@ -1,28 +1,17 @@
 -- The laws that `src/laws.rt` proves.
-use Rattle.std.specs.Prelude.{◌≡◌, ◌≢◌, ℕ, List, Some, IsSome, IsTrue, length, codes}
+use Rattle.dcv_cli.specs.Common.{◌≡◌, ◌≢◌, ℕ, List, Some, IsTrue, length, codes, PlainFile, models, texts_of, Limits, IsOver, Over, Budget}
+use Rattle.dcv_cli.specs.Common.{Done, Valid, StatusBudget, all_text, Kind, Automaton, All as AllTexts, Request, Report, Certify, Convert}
+use Rattle.dcv_cli.specs.Common.{Implies, files_of, Version, One, Two}
+use Rattle.std.specs.Prelude.{IsSome}
 use Rattle.std.specs.List.{All}
-use Rattle.dcv_syntax.specs.Plain.{PlainFile}
 use Rattle.dcv_language.specs.Language.{HaveSameBehaviours}
-use Rattle.dcv_logic.specs.Models.{models}
 use Rattle.dcv_tokens.specs.Tokens.{BeginsWith}
-use Rattle.dcv_print.specs.Printed.{texts_of}
 use Rattle.dcv_explore.specs.Budget.{Kind as KindOfExcess}
-use Rattle.dcv_explore.specs.declared.explorer.Limits.{Limits}
-use Rattle.dcv_build.specs.Budget.{IsOver}
-use Rattle.dcv_cli.specs.declared.budget_line.Over.{Over}
-use Rattle.dcv_cli.specs.declared.refusal.Refusal.TheVariants.{Budget}
-use Rattle.dcv_cli.specs.declared.status.Status.TheVariants.{Done, Valid, Budget as StatusBudget}
 use Rattle.dcv_cli.specs.Budget.{steps_of_file, IsFirstOver}
 use Rattle.dcv_cli.specs.Refusal.{message_of, only}
 use Rattle.dcv_cli.specs.FormulaFile.{IsFormulaFile}
 use Rattle.dcv_cli.specs.Held.{Texts}
 use Rattle.dcv_cli.specs.Outcome.{Outcome, Agrees, AgreeInMeaning}
-use Rattle.dcv_print.specs.Sections.{all_text}
-use Rattle.dcv_language.specs.declared.kind.Kind.{Kind}
-use Rattle.dcv_language.specs.declared.kind.Kind.TheVariants.{Automaton, All as AllTexts}
-use Rattle.dcv_command.specs.Request.{Request, Report, Certify, Convert, Implies, files_of}
-use Rattle.dcv_command.specs.declared.words.Version.{Version}
-use Rattle.dcv_command.specs.declared.words.Version.TheVariants.{One, Two}
 use Rattle.dcv_cli.specs.Request.{AsksFor}
 use Rattle.dcv_cli.specs.Right.{Fulfils, IsRight}
 use Rattle.dcv_cli.specs.Status.{is_answer}

@@ -1,3 +1,5 @@
+-- what they cite of other crates
+pub mod Common
 -- what is right: the definitions that the clauses of `run` and the laws cite, in reading order
 pub mod Request
 pub mod Status

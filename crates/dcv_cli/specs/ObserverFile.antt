@@ -4,19 +4,14 @@
 --     IsRefusedObserver subset text refusal     the text is no observer's, for this reason
 --     IsObserverText subset text observer       it spells the observer, which keeps the rules of names
 --     OnObserver subset text RightFor outcome   the outcomes that are right where a command is given this text
-use Rattle.std.specs.Prelude.{◌≡◌, ℕ, ◌<◌, ◌≤◌, List, length}
+use Rattle.dcv_cli.specs.Common.{◌≡◌, ℕ, ◌<◌, ◌≤◌, List, length, Subset, ObsFault, Observer, Refusal, ObserverRefusal, Only}
 use Rattle.dcv_c.specs.Faults as c
-use Rattle.dcv_command.specs.declared.words.Subset.{Subset}
 use Rattle.dcv_command.specs.declared.words.Subset.TheVariants.{Lustre as InLustre, C as InC}
 use Rattle.dcv_lustre.specs.Faults as lustre
-use Rattle.dcv_observer.specs.declared.fault.ObsFault.{ObsFault}
-use Rattle.dcv_replay.specs.Observer.{Observer, Lustre, C}
-use Rattle.dcv_cli.specs.declared.refusal.Refusal.{Refusal}
-use Rattle.dcv_cli.specs.declared.refusal.Refusal.TheVariants.{Observer as ObserverRefusal}
+use Rattle.dcv_replay.specs.Observer.{Lustre, C}
 use Rattle.dcv_cli.specs.declared.faults.ObserverFault.TheVariants.{Length}
 use Rattle.dcv_cli.specs.Outcome.{Outcome, refused}
 use Rattle.dcv_cli.specs.Refusal.{most_observer_bytes, refusal_of_observer}
-use Rattle.dcv_cli.specs.declared.refused.Which.TheVariants.{Only}
 
 -- its syntax, or else its names
 abbrev pub IsFaultIn : Subset → List ℕ → ObsFault → Type 0

@@ -9,22 +9,11 @@
 --     has_automaton kind      whether a report of this kind has the text of an automaton
 --     AgreeInMeaning kind one other
 --                             reports that are the same, but for what is left to the program and what the steps took
-use Rattle.std.specs.Prelude.{◌≡◌, ◌≢◌, ◌⊎◌, ℕ, Bool, true, false, List, [], IsFalse}
-use Rattle.dcv_language.specs.VerdictText.{line}
-use Rattle.dcv_cli.specs.declared.budget_line.Excess.{Excess}
-use Rattle.dcv_cli.specs.declared.budget_line.Over.{Over}
-use Rattle.dcv_cli.specs.declared.refusal.Refusal.{Refusal}
-use Rattle.dcv_cli.specs.declared.refusal.Refusal.TheVariants.{Budget, Product}
-use Rattle.dcv_cli.specs.declared.status.Status.{Status}
-use Rattle.dcv_cli.specs.declared.status.Status.TheVariants.{Usage}
+use Rattle.dcv_cli.specs.Common.{◌≡◌, ◌≢◌, ◌⊎◌, ℕ, Bool, true, false, List, [], IsFalse, line, Excess, Over, Refusal, Budget, Product}
+use Rattle.dcv_cli.specs.Common.{Status, Usage, Kind, Automaton, All, Which, Only, OnTrue}
 use Rattle.dcv_print.specs.Automaton.{DifferInSuffixes, AgreeUpToAccess}
-use Rattle.dcv_language.specs.declared.kind.Kind.{Kind}
-use Rattle.dcv_language.specs.declared.kind.Kind.TheVariants.{Automaton, All}
 use Rattle.dcv_cli.specs.Refusal.{status_of, words_of, ended}
-use Rattle.dcv_cli.specs.declared.refused.Which.{Which}
-use Rattle.dcv_cli.specs.declared.refused.Which.TheVariants.{Only}
 use Rattle.dcv_cli.specs.Status.{is_determined}
-use Rattle.std.specs.Bool.{OnTrue}
 
 -- how a run ends, and what it adds to the output and to the messages
 pub record Outcome : Type 0 where

@@ -1,6 +1,5 @@
 -- What is seen of the files and of the output.
-use Rattle.std.specs.Prelude.{ℕ, List, Option}
-use Rattle.dcv_io.specs.Disk.{Disk}
+use Rattle.dcv_cli.specs.Common.{ℕ, List, Option, None, Disk}
 
 pub record Outside : Type 0 where
   pub told : Option Disk
@@ -13,3 +12,7 @@ pub record Outside : Type 0 where
 abbrev pub outside : Option Disk → Option (List (List ℕ)) → ℕ → ℕ → Option (List ℕ) → ℕ → Outside
 outside told asked open_faults read_faults written faults =
     record { told = told; asked = asked; open_faults = open_faults; read_faults = read_faults; written = written; faults = faults }
+
+-- of the files alone
+abbrev pub of_files : Option Disk → Option (List (List ℕ)) → ℕ → ℕ → Outside
+of_files told asked open_faults read_faults = outside told asked open_faults read_faults None 0

@@ -1,24 +1,32 @@
 -- What each command keeps to, whatever it is asked for. The clauses of `run` are these, with the message.
+--     Takes name result ..             a file was taken, or is refused
 --     ending result, said result       the status of a command, and the line that says why it gives no answer
---     Performs Right Left names ..     the command ends rightly, or says why not
+--     Ends Right result ..             what it has written, and how it ended
+--     Performs Right Left names ..     and what it has read
 --     PerformsRequest request ..       it does what the request asks for
-use Rattle.std.specs.Prelude.{◌≡◌, ℕ, Bool, false, List, [], Result, Ok, Err, IfOk, IfErr, IsTrue}
-use Rattle.std.specs.Bool.{OnTrue}
-use Rattle.dcv_io.specs.Asked.{AsksPrefix}
-use Rattle.dcv_io.specs.Disk.{held_of}
-use Rattle.dcv_io.specs.Faults.{has_risen, RisesIf}
-use Rattle.dcv_io.specs.Written.{Appends}
-use Rattle.dcv_command.specs.Request.{Request, files_of}
-use Rattle.dcv_cli.specs.declared.refused.Refused.{Refused}
-use Rattle.dcv_cli.specs.declared.status.Status.{Status}
-use Rattle.dcv_cli.specs.Ending.{EndsBy, AddsFront, StopsWithin, Leaves, HasInputCause, has_cause}
+--     Answers Right result ..          it ends so after its last file
+--     Replies status report result ..  the report was written, or a write of it failed
+use Rattle.dcv_cli.specs.Common.{◌≡◌, ℕ, Bool, false, List, [], ◌∷◌, Option, Result, Ok, Err, IsTrue, IsFalse, OnTrue, Asks, AsksPrefix}
+use Rattle.dcv_cli.specs.Common.{held_of, has_risen, Rises, RisesIf, Appends, AppendsStrictPrefix, Request, files_of, Refused, Refusal}
+use Rattle.dcv_cli.specs.Common.{Write, Status, Only}
+use Rattle.std.specs.Prelude.{IfOk, IfErr}
+use Rattle.dcv_cli.specs.Ending.{EndsBy, AddsFront, StopsWithin, Leaves, LeavesNothing, HasInputCause}
 use Rattle.dcv_cli.specs.Held.{ForHeld}
 use Rattle.dcv_cli.specs.Outcome.{Outcome}
 use Rattle.dcv_cli.specs.Outside.{Outside}
-use Rattle.dcv_cli.specs.declared.refused.Which.TheVariants.{Only}
-use Rattle.dcv_cli.specs.Refusal.{status_of, message_of, is_open, is_read}
+use Rattle.dcv_cli.specs.Refusal.{status_of, message_of, only, is_err_and, is_open, is_read, is_of_taking}
 use Rattle.dcv_cli.specs.Right.{FulfilsOver}
-use Rattle.dcv_cli.specs.Status.{is_answer, is_determined, is_silent, is_input, is_output}
+use Rattle.dcv_cli.specs.Status.{has_cause, is_answer, is_determined, is_silent, is_input, is_output}
+
+-- A file of this name was asked for. No fault is passed over, and none is invented; and what the files hold stays.
+pub record Takes {T : Type 0} (name : List ℕ) (result : Result T Refusal) (before after : Outside) : Type 0 where
+  pub asked : Asks (name ∷ []) before.asked after.asked
+  pub opened : RisesIf (is_err_and is_open result) before.open_faults after.open_faults
+  pub read : RisesIf (is_err_and is_read result) before.read_faults after.read_faults
+  pub taking : IfErr result (λ refusal. IsTrue (is_of_taking refusal))
+  pub held : held_of after.told ≡ held_of before.told
+
+-- ---- a command
 
 abbrev pub ending : Result Status Refused → Status
 ending (Ok status) = status
@@ -37,24 +45,29 @@ abbrev pub is_read_refusal : Result Status Refused → Bool
 is_read_refusal (Ok status) = false
 is_read_refusal (Err refused) = is_read refused.refusal
 
--- `Right` says which outcomes are right, `Left` what was written where an input failed, and `names` are the files that are read.
-pub record Performs (Right : Outcome → Type 0) (Left : Outside → Outside → List ℕ → Type 0) (names : List (List ℕ)) (result : Result Status Refused) (before after : Outside) : Type 0 where
+-- `Right` says which outcomes are right.
+pub record Ends (Right : Outcome → Type 0) (result : Result Status Refused) (old : Option (List ℕ)) (before : ℕ) (new : Option (List ℕ)) (after : ℕ) : Type 0 where
   -- Where the texts determine the end, it is that of a right outcome. A command that answers does so without a message.
-  pub right : OnTrue (is_determined (ending result)) (EndsBy Right (ending result) before.written after.written (λ message. message ≡ said result))
+  pub right : OnTrue (is_determined (ending result)) (EndsBy Right (ending result) old new (λ message. message ≡ said result))
   pub answer : IfOk result (λ status. IsTrue (is_answer status))
   -- Nothing but a front of a right report is written: none of it before a refusal that comes before the first byte, and some of it is
   -- missing where the output fails.
-  pub front : AddsFront Right before.written after.written
-  pub silent : OnTrue (is_silent (ending result)) (Appends before.written after.written [])
-  pub stops : OnTrue (is_output (ending result)) (StopsWithin Right before.written after.written)
+  pub front : AddsFront Right old new
+  pub silent : OnTrue (is_silent (ending result)) (Appends old new [])
+  pub stops : OnTrue (is_output (ending result)) (StopsWithin Right old new)
+  pub output : RisesIf (is_output (ending result)) before after
+  -- A refusal that the outside brought about is of no file.
+  pub of_none : IfErr result (λ refused. OnTrue (has_cause (status_of refused.refusal)) (refused.which ≡ Only))
+
+-- `Left` says what was written where an input failed, and `names` are the files that are read.
+pub record Performs (Right : Outcome → Type 0) (Left : Outside → Outside → List ℕ → Type 0) (names : List (List ℕ)) (result : Result Status Refused) (before after : Outside) : Type 0 where
+  pub ends : Ends Right result before.written before.faults after.written after.faults
   pub left : OnTrue (is_input (ending result)) ((bytes : List ℕ) × Left before after bytes × Appends before.written after.written bytes)
-  -- Its files are asked for in order, no fault is passed over, and none is invented. A refusal that the outside brought about is of no file.
+  -- Its files are asked for in order, no fault is passed over, and none is invented.
   pub asked : AsksPrefix names before.asked after.asked
   pub input : HasInputCause (ending result) before.open_faults after.open_faults before.read_faults after.read_faults
   pub opened : OnTrue (is_open_refusal result) (IsTrue (has_risen before.open_faults after.open_faults))
   pub read : OnTrue (is_read_refusal result) (IsTrue (has_risen before.read_faults after.read_faults))
-  pub output : RisesIf (is_output (ending result)) before.faults after.faults
-  pub of_none : IfErr result (λ refused. OnTrue (has_cause (status_of refused.refusal)) (refused.which ≡ Only))
   pub held : held_of after.told ≡ held_of before.told
 
 -- what was written for the request, where an input failed
@@ -64,3 +77,18 @@ LeavesFor request before after bytes = ForHeld before.told (λ held. Leaves requ
 abbrev pub PerformsRequest : Request → Result Status Refused → Outside → Outside → Type 0
 PerformsRequest request result before after =
     Performs (FulfilsOver request before.told) (LeavesFor request) (files_of request) result before after
+
+-- ---- after the last file
+
+-- the same where that is the file of one name
+abbrev pub LeavesOne : List ℕ → Outside → Outside → List ℕ → Type 0
+LeavesOne name before after bytes = ForHeld before.told (λ held. LeavesNothing name before after bytes)
+
+-- no input fails any more
+pub record Answers (Right : Outcome → Type 0) (result : Result Status Refused) (old : Option (List ℕ)) (before : ℕ) (new : Option (List ℕ)) (after : ℕ) : Type 0 where
+  pub ends : Ends Right result old before new after
+  pub no_input : IsFalse (is_input (ending result))
+
+abbrev pub Replies : Status → List ℕ → Result Status Refused → Option (List ℕ) → ℕ → Option (List ℕ) → ℕ → Type 0
+Replies status report (Ok answer) old before new after = (answer ≡ status) × Appends old new report × (after ≡ before)
+Replies status report (Err refused) old before new after = (refused ≡ only Write) × AppendsStrictPrefix old new report × Rises before after

@@ -2,17 +2,10 @@
 --     Seen               what is seen of the files and of both streams
 --     Promise words ..   how a run of these words ends, between what is seen before it and after it
 --     not_utf8           what is said where the arguments of the process are no text
-use Rattle.std.specs.Prelude.{◌≡◌, ◌⊎◌, ℕ, true, List, [], Option, IsTrue, IsFalse, codes}
-use Rattle.std.specs.Bool.{OnTrue}
-use Rattle.dcv_io.specs.Disk.{Disk, held_of}
-use Rattle.dcv_io.specs.Faults.{has_risen, RisesIf}
-use Rattle.dcv_io.specs.Written.{Appends}
-use Rattle.dcv_language.specs.VerdictText.{line}
+use Rattle.dcv_cli.specs.Common.{◌≡◌, ◌⊎◌, ℕ, true, List, [], Option, IsTrue, IsFalse, codes, OnTrue, Disk, held_of, has_risen, RisesIf}
+use Rattle.dcv_cli.specs.Common.{Appends, line, Request, IsTaken, Status, Usage, Memory}
 use Rattle.clap.specs.Words.{takes}
 use Rattle.dcv_command.specs.Program.{program}
-use Rattle.dcv_command.specs.Request.{Request, IsTaken}
-use Rattle.dcv_cli.specs.declared.status.Status.{Status}
-use Rattle.dcv_cli.specs.declared.status.Status.TheVariants.{Usage, Memory}
 use Rattle.dcv_cli.specs.Ending.{EndsBy, AddsFront, StopsWithin, LeavesOver, AsksFrontOf, HasInputCause, Tells, TellsCause}
 use Rattle.dcv_cli.specs.Outside.{Outside, outside}
 use Rattle.dcv_cli.specs.Request.{AsksFor}

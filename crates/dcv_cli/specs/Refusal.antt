@@ -6,46 +6,34 @@
 --     over_words over        those of the first step that is over the limits, as `budget states 30000 at 12 step 3`
 --     ended which words      the words where a request reads two formula files, and this one is refused
 --     message_of refused     the line
-use Rattle.std.specs.Prelude.{ℕ, Bool, true, false, List, ◌++◌, Result, Ok, Err, codes}
-use Rattle.std.specs.Fmt.{decimal}
+use Rattle.dcv_cli.specs.Common.{ℕ, Bool, true, false, List, ◌++◌, Result, Ok, Err, if◌then◌else◌, codes, decimal, ObsFault, ReadFault}
+use Rattle.dcv_cli.specs.Common.{ScopeFault, line, Excess, States, Nodes, Over, Refusal, Open, Read, Formula, ObserverRefusal as Observer}
+use Rattle.dcv_cli.specs.Common.{Trace, Budget, Product, Write, Declarations, Outputs, Length as AutomatonLength, Syntax as AutomatonSyntax}
+use Rattle.dcv_cli.specs.Common.{Table as AutomatonTable, TraceFault, Line, Empty, TraceLength, Refused, Which, Only, First, Second, Status}
+use Rattle.dcv_cli.specs.Common.{StatusFormula, StatusBudget, Input, Output, Memory as StatusMemory, StatusAutomaton, StatusTrace}
+use Rattle.dcv_cli.specs.Common.{StatusObserver}
 use Rattle.dcv_automaton_read.specs.declared.faults.AutoFault.{AutoFault}
 use Rattle.dcv_automaton_read.specs.declared.faults.AutoFault.TheVariants.{Syntax as AutoSyntax, Table as AutoTable, Memory as AutoMemory}
 use Rattle.dcv_implies.specs.declared.faults.OutsideFault.{OutsideFault}
 use Rattle.dcv_implies.specs.declared.faults.OutsideFault.TheVariants.{States as OutsideStates, Nodes as OutsideNodes, Memory as OutsideMemory}
-use Rattle.dcv_observer.specs.declared.fault.ObsFault.{ObsFault}
 use Rattle.dcv_observer.specs.declared.fault.ObsFault.TheVariants.{Syntax as ObsSyntax, Names as ObsNames, Memory as ObsMemory}
 use Rattle.dcv_replay.specs.declared.fault.ReplayFault.{ReplayFault}
 use Rattle.dcv_replay.specs.declared.fault.ReplayFault.TheVariants.{Open as ReplayOpen, Read as ReplayRead, Line as ReplayLine, TooLong as ReplayLong}
 use Rattle.dcv_replay.specs.declared.fault.ReplayFault.TheVariants.{Empty as ReplayEmpty, Write as ReplayWrite}
-use Rattle.dcv_sentence.specs.declared.faults.ReadFault.{ReadFault}
 use Rattle.dcv_sentence.specs.declared.faults.ReadFault.TheVariants.{Byte as ByteAt, Syntax as SyntaxAt, Number as NumberAt, Name as NameAt, Nest as NestAt, Memory as ReadMemory}
-use Rattle.dcv_scope.specs.declared.faults.ScopeFault.{ScopeFault}
 use Rattle.dcv_scope.specs.declared.faults.ScopeFault.TheVariants.{TooMany as ManyAt, Duplicate as DuplicateAt, Taken as TakenAt, Unknown as UnknownAt}
 use Rattle.dcv_scope.specs.declared.faults.ScopeFault.TheVariants.{Kind as KindAt, Arity as ArityAt, Size as SizeAt, Depth as DepthAt, Slots as SlotsAt}
 use Rattle.dcv_scope.specs.declared.faults.ScopeFault.TheVariants.{BoundShift as ShiftAt}
 use Rattle.dcv_scope.specs.declared.faults.ScopeFault.TheVariants.{Memory as ScopeMemory}
-use Rattle.dcv_language.specs.VerdictText.{line}
-use Rattle.dcv_cli.specs.declared.budget_line.Excess.{Excess}
-use Rattle.dcv_cli.specs.declared.budget_line.Excess.TheVariants.{States, Nodes}
-use Rattle.dcv_cli.specs.declared.budget_line.Over.{Over}
-use Rattle.dcv_cli.specs.declared.refusal.Refusal.{Refusal}
-use Rattle.dcv_cli.specs.declared.refusal.Refusal.TheVariants.{Open, Read, Formula, Automaton, Observer, Trace, Budget, Product, Write, Memory}
+use Rattle.dcv_cli.specs.declared.refusal.Refusal.TheVariants.{Automaton, Memory}
 use Rattle.dcv_cli.specs.declared.faults.FormulaFault.{FormulaFault}
-use Rattle.dcv_cli.specs.declared.faults.FormulaFault.TheVariants.{Length as FormulaLength, Text, Declarations, Outputs}
+use Rattle.dcv_cli.specs.declared.faults.FormulaFault.TheVariants.{Length as FormulaLength, Text}
 use Rattle.dcv_cli.specs.declared.faults.AutomatonFault.{AutomatonFault}
-use Rattle.dcv_cli.specs.declared.faults.AutomatonFault.TheVariants.{Length as AutomatonLength, Syntax as AutomatonSyntax, Table as AutomatonTable}
 use Rattle.dcv_cli.specs.declared.faults.ObserverFault.{ObserverFault}
 use Rattle.dcv_cli.specs.declared.faults.ObserverFault.TheVariants.{Length as ObserverLength, Syntax as ObserverSyntax, Names as ObserverNames}
-use Rattle.dcv_cli.specs.declared.faults.TraceFault.{TraceFault}
-use Rattle.dcv_cli.specs.declared.faults.TraceFault.TheVariants.{Line, Empty, Length as TraceLength}
-use Rattle.dcv_cli.specs.declared.refused.Refused.{Refused}
-use Rattle.dcv_cli.specs.declared.refused.Which.{Which}
-use Rattle.dcv_cli.specs.declared.refused.Which.TheVariants.{Only, First, Second}
 use Rattle.dcv_cli.specs.declared.faults.TextFault.{TextFault}
 use Rattle.dcv_cli.specs.declared.faults.TextFault.TheVariants.{Byte, Syntax, Number, Name, Nest, Many, Duplicate, Taken, Unknown, Kind, Arity, Size, Depth, Slots, Shift}
-use Rattle.dcv_cli.specs.declared.status.Status.{Status}
-use Rattle.dcv_cli.specs.declared.status.Status.TheVariants.{Formula as StatusFormula, Budget as StatusBudget, Input, Output, Memory as StatusMemory}
-use Rattle.dcv_cli.specs.declared.status.Status.TheVariants.{Automaton as StatusAutomaton, Trace as StatusTrace, Observer as StatusObserver}
+use Rattle.dcv_cli.specs.Status.{has_cause}
 
 abbrev pub most_bytes : ℕ
 most_bytes = 262144
@@ -156,11 +144,7 @@ only refusal = record { refusal = refusal; which = Only }
 
 -- a fault of a file is said of that file; that the outside failed, or memory, is said of none
 abbrev pub marked : Which → Refusal → Refused
-marked which Open = only Open
-marked which Read = only Read
-marked which Write = only Write
-marked which Memory = only Memory
-marked which refusal = record { refusal = refusal; which = which }
+marked which refusal = record { refusal = refusal; which = if has_cause (status_of refusal) then Only else which }
 
 -- after the words, to the end of the line
 abbrev pub end_of : Which → List ℕ

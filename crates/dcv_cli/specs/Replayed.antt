@@ -2,20 +2,11 @@
 --     fault_of_trace verdict            what is wrong with a trace, if it is not good
 --     IsReplay observer trace outcome   the observer's answers to the good lines of the trace, and what is wrong with it after these
 --     LeavesAnswers subset ..           what was written where an input failed
-use Rattle.std.specs.Prelude.{◌≡◌, ℕ, List, [], ◌∷◌, Option, None, Some}
-use Rattle.dcv_io.specs.Asked.{Asks}
-use Rattle.dcv_io.specs.Disk.{Disk}
-use Rattle.dcv_io.specs.Faults.{Rises}
-use Rattle.dcv_word.specs.Behaviour.{Word}
-use Rattle.dcv_command.specs.declared.words.Subset.{Subset}
-use Rattle.dcv_replay.specs.Observer.{Observer, width_of, AreAnswers}
+use Rattle.dcv_cli.specs.Common.{◌≡◌, ℕ, List, [], ◌∷◌, Option, None, Some, Asks, Disk, Rises, Word, Subset, Observer, TraceFault, Line}
+use Rattle.dcv_cli.specs.Common.{Empty, TraceLength as Length, Trace, Status, Done, StatusTrace}
+use Rattle.dcv_replay.specs.Observer.{width_of, AreAnswers}
 use Rattle.dcv_replay.specs.Replayed.{CutShort}
 use Rattle.dcv_replay.specs.TraceText.{Verdict, Good, Bad, Long, Nothing, HasVerdict, good_letters}
-use Rattle.dcv_cli.specs.declared.faults.TraceFault.{TraceFault}
-use Rattle.dcv_cli.specs.declared.faults.TraceFault.TheVariants.{Line, Empty, Length}
-use Rattle.dcv_cli.specs.declared.refusal.Refusal.TheVariants.{Trace}
-use Rattle.dcv_cli.specs.declared.status.Status.{Status}
-use Rattle.dcv_cli.specs.declared.status.Status.TheVariants.{Done, Trace as StatusTrace}
 use Rattle.dcv_cli.specs.Held.{Texts}
 use Rattle.dcv_cli.specs.ObserverFile.{IsObserverText}
 use Rattle.dcv_cli.specs.Outcome.{Outcome}

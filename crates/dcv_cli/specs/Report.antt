@@ -2,20 +2,10 @@
 --     Says kind ..                 the text is what the kind of report says, of a set of behaviours, what its steps took and its verdict
 --     IsReport kind limits file outcome
 --                                  the outcome is the report on the file
-use Rattle.std.specs.Prelude.{◌≡◌, ℕ, List, [], length}
-use Rattle.dcv_syntax.specs.Plain.{PlainFile}
-use Rattle.dcv_logic.specs.Models.{models}
-use Rattle.dcv_language.specs.Language.{Language}
-use Rattle.dcv_language.specs.Verdict.{Verdict, IsVerdict}
-use Rattle.dcv_language.specs.VerdictText.{verdict_text}
-use Rattle.dcv_language.specs.declared.count.Count.{Count}
-use Rattle.dcv_explore.specs.declared.explorer.Limits.{Limits}
-use Rattle.dcv_build.specs.Counts.{AreCounts}
-use Rattle.dcv_print.specs.Printed.{texts_of}
+use Rattle.dcv_cli.specs.Common.{◌≡◌, ℕ, List, [], length, PlainFile, models, Language, Verdict, IsVerdict, verdict_text, Count, Limits}
+use Rattle.dcv_cli.specs.Common.{AreCounts, texts_of, all_text, Kind, Automaton, All}
 use Rattle.dcv_print.specs.Observers.{SaysNode, SaysUnit}
-use Rattle.dcv_print.specs.Sections.{all_text}
-use Rattle.dcv_language.specs.declared.kind.Kind.{Kind}
-use Rattle.dcv_language.specs.declared.kind.Kind.TheVariants.{Check, Automaton, Lustre, C, All}
+use Rattle.dcv_language.specs.declared.kind.Kind.TheVariants.{Check, Lustre, C}
 use Rattle.dcv_cli.specs.Automaton.{SaysAutomaton}
 use Rattle.dcv_cli.specs.Budget.{steps_of_file}
 use Rattle.dcv_cli.specs.Outcome.{Outcome}

@@ -1,10 +1,8 @@
 -- Which outcomes are right for the words of a run and for what is held under the names.
 --     Fulfils request held outcome      right for the request
 --     IsRight words held outcome        right for the words
-use Rattle.std.specs.Prelude.{◌≡◌, ℕ, List, [], Option}
-use Rattle.dcv_io.specs.Disk.{Disk}
-use Rattle.dcv_cli.specs.declared.status.Status.TheVariants.{Usage}
-use Rattle.dcv_command.specs.Request.{Request, Report, Certify, Convert, Implies, Stuck, Synth, Replay, Sweep, IsTaken}
+use Rattle.dcv_cli.specs.Common.{◌≡◌, ℕ, List, [], Option, Disk, Usage, Request, Report, Certify, Convert, Implies, Stuck, Synth, Replay}
+use Rattle.dcv_cli.specs.Common.{Sweep, IsTaken, Only, First, Second}
 use Rattle.dcv_cli.specs.AutomatonFile.{OnAutomaton}
 use Rattle.dcv_cli.specs.Budget.{IsBudgeted}
 use Rattle.dcv_cli.specs.Certificate.{IsCertificate}
@@ -13,7 +11,6 @@ use Rattle.dcv_cli.specs.Conversion.{IsConverted}
 use Rattle.dcv_cli.specs.FormulaFile.{OnText}
 use Rattle.dcv_cli.specs.Held.{Texts, OnHeld, ForHeld}
 use Rattle.dcv_cli.specs.Outcome.{Outcome}
-use Rattle.dcv_cli.specs.declared.refused.Which.TheVariants.{Only, First, Second}
 use Rattle.dcv_cli.specs.ObserverFile.{OnObserver}
 use Rattle.dcv_cli.specs.Replayed.{IsReplay}
 use Rattle.dcv_cli.specs.Report.{IsReport}

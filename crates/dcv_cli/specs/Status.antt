@@ -1,9 +1,8 @@
 -- The statuses of a run, and how they group.
-use Rattle.std.specs.Prelude.{ℕ, Bool, true, false, Option, is_none, if◌then◌else◌}
-use Rattle.dcv_word.specs.Behaviour.{Word}
-use Rattle.dcv_language.specs.Verdict.{Verdict}
-use Rattle.dcv_cli.specs.declared.status.Status.{Status}
-use Rattle.dcv_cli.specs.declared.status.Status.TheVariants.{Valid, Done, NotValid, Usage, Formula, Budget, Input, Output, Memory, Trace, Observer, Automaton}
+use Rattle.dcv_cli.specs.Common.{ℕ, Bool, true, false, Option, if◌then◌else◌, Word, Verdict, Status, Valid, Done, NotValid, Usage}
+use Rattle.dcv_cli.specs.Common.{StatusFormula as Formula, StatusBudget as Budget, Input, Output, Memory, StatusTrace as Trace}
+use Rattle.dcv_cli.specs.Common.{StatusObserver as Observer, StatusAutomaton as Automaton}
+use Rattle.std.specs.Prelude.{is_none}
 
 -- the program's exit status
 abbrev pub code_of : Status → ℕ
@@ -37,15 +36,11 @@ is_answer _ = false
 
 -- The words and what is held determine such a status, with its report and its message.
 abbrev pub is_determined : Status → Bool
-is_determined Valid = true
-is_determined Done = true
-is_determined NotValid = true
-is_determined Formula = true
-is_determined Budget = true
-is_determined Trace = true
-is_determined Observer = true
-is_determined Automaton = true
-is_determined _ = false
+is_determined Usage = false
+is_determined Input = false
+is_determined Output = false
+is_determined Memory = false
+is_determined _ = true
 
 -- the status of a run that is refused before anything is written, whatever it was asked for
 abbrev pub is_silent : Status → Bool
@@ -66,6 +61,13 @@ is_input _ = false
 abbrev pub is_output : Status → Bool
 is_output Output = true
 is_output _ = false
+
+-- the status of a run that something outside of the words and the texts brought about
+abbrev pub has_cause : Status → Bool
+has_cause Input = true
+has_cause Output = true
+has_cause Memory = true
+has_cause _ = false
 
 -- a run ends so only where its words ask for something
 abbrev pub is_of_request : Status → Bool

@@ -6,21 +6,14 @@
 --     SaysStrategy n m L text                 the text has the strategy of least inputs
 --     IsSynthesis n m L names outcome         the outcome is one of the two
 --     IsSynthesised inputs limits file o      the file's variables can be divided, it is within the limits, and so it is; or the outcome says what is not
-use Rattle.std.specs.Prelude.{◌≡◌, ℕ, ◌+◌, ◌-◌, Bool, nat_le, ◌&&◌, List, [], ◌++◌, length, take, codes, IsTrue, IsFalse}
-use Rattle.std.specs.Fmt.{decimal}
+use Rattle.dcv_cli.specs.Common.{◌≡◌, ℕ, Bool, ◌&&◌, List, [], ◌++◌, length, codes, IsTrue, IsFalse, decimal, Word, PlainFile, models}
+use Rattle.dcv_cli.specs.Common.{Language, line, IsReadAsUnit as IsReadAs, text_of, Limits, Formula, Outputs, Only, Valid, NotValid}
+use Rattle.std.specs.Prelude.{◌+◌, ◌-◌, nat_le, take}
 use Rattle.std.specs.List.{flat_map}
-use Rattle.dcv_word.specs.Behaviour.{Word}
 use Rattle.dcv_word.specs.TraceLine.{trace_line}
-use Rattle.dcv_syntax.specs.Plain.{PlainFile}
-use Rattle.dcv_logic.specs.Models.{models}
-use Rattle.dcv_language.specs.Language.{Language}
 use Rattle.dcv_language.specs.Canonical.{IsCanonical}
 use Rattle.dcv_language.specs.Table.{Table, automaton_of}
-use Rattle.dcv_language.specs.VerdictText.{line}
 use Rattle.dcv_automaton_file.specs.File.{texts_of}
-use Rattle.dcv_c.specs.Faults.{IsReadAs}
-use Rattle.dcv_c.specs.Layout.{text_of}
-use Rattle.dcv_explore.specs.declared.explorer.Limits.{Limits}
 use Rattle.dcv_synth.specs.Control.{ControlValue, IsControl, IsControlOf}
 use Rattle.dcv_synth.specs.Game.{Wins, Beats}
 use Rattle.dcv_synth.specs.Moves.{input_at}
@@ -29,10 +22,6 @@ use Rattle.dcv_synth.specs.Play.{environment_of}
 use Rattle.dcv_synth.specs.Units.{unit_of, controller_in}
 use Rattle.dcv_synth.specs.declared.strategy.Move.{Move}
 use Rattle.dcv_synth.specs.declared.strategy.Strategy.{Strategy}
-use Rattle.dcv_cli.specs.declared.refusal.Refusal.TheVariants.{Formula}
-use Rattle.dcv_cli.specs.declared.faults.FormulaFault.TheVariants.{Outputs}
-use Rattle.dcv_cli.specs.declared.refused.Which.TheVariants.{Only}
-use Rattle.dcv_cli.specs.declared.status.Status.TheVariants.{Valid, NotValid}
 use Rattle.dcv_cli.specs.Budget.{IsBudgeted}
 use Rattle.dcv_cli.specs.Outcome.{Outcome, refused}
 

@@ -2,12 +2,9 @@
 --     status_of_synthesis found   the status of a run that has found it
 --     synthesis_text found        what is written of it
 --     synthesised found           that run's outcome
-use Rattle.std.specs.Prelude.{ℕ, List, []}
-use Rattle.dcv_c.specs.Layout.{text_of}
-use Rattle.dcv_cli.specs.declared.status.Status.{Status}
-use Rattle.dcv_cli.specs.declared.status.Status.TheVariants.{Valid, NotValid}
-use Rattle.dcv_cli.specs.declared.synthesising.Synthesis.{Synthesis}
-use Rattle.dcv_cli.specs.declared.synthesising.Synthesis.TheVariants.{Controller, Strategy}
+use Rattle.dcv_cli.specs.Common.{ℕ, List, [], text_of, Status, Valid, NotValid}
+use Rattle.dcv_cli.specs.declared.synth.Synthesis.{Synthesis}
+use Rattle.dcv_cli.specs.declared.synth.Synthesis.TheVariants.{Controller, Strategy}
 use Rattle.dcv_cli.specs.Outcome.{Outcome}
 use Rattle.dcv_cli.specs.Synthesis.{controller_text, strategy_text}
 

@@ -4,7 +4,7 @@ ghost use Rattle.dcv_io.specs.Faults.{RisesIf};
 ghost use Rattle.dcv_io.specs.Written.{Appends, AppendsPrefix};
 ghost use Rattle.dcv_cli.specs.Refusal.{excess_word_of, over_words, product_words};
 
-use crate::telling::write_pieces;
+use crate::line::write_pieces;
 use dcv_io::{Failed, Sink};
 use itoa::Buffer;
 

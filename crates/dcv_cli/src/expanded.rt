@@ -1,22 +1,21 @@
 // What there is of a formula file that is not refused: its core and the names of its variables, and then its automaton.
-ghost use Rattle.std.specs.Prelude.{◌≡◌, ◌≤◌, [], ◌∷◌, length, IfOk, IfErr, IsTrue};
+ghost use Rattle.std.specs.Prelude.{◌≡◌, ◌≤◌, length, IfOk, IfErr, IsTrue};
 ghost use Rattle.std.specs.Bool.{OnTrue};
-ghost use Rattle.dcv_io.specs.Asked.{Asks};
-ghost use Rattle.dcv_io.specs.Disk.{held_of};
-ghost use Rattle.dcv_io.specs.Faults.{RisesIf};
 ghost use Rattle.dcv_syntax.specs.Plain.{PlainFile};
 ghost use Rattle.dcv_build.specs.Counts.{AreCounts};
 ghost use Rattle.dcv_build.specs.Given.{IsCore};
 ghost use Rattle.dcv_cli.specs.Budget.{steps_of_file, NamesFirstOver};
 ghost use Rattle.dcv_cli.specs.Expanded.{IsExpandedText, IsExpandedIn, IsRefusedFile, IsExpanded, IsBuilt};
 ghost use Rattle.dcv_cli.specs.FormulaFile.{IsRefused};
-ghost use Rattle.dcv_cli.specs.Refusal.{most_bytes, is_of_text, is_of_taking, is_open, is_read, is_err_and, status_of};
+ghost use Rattle.dcv_cli.specs.Outside.{of_files};
+ghost use Rattle.dcv_cli.specs.Performed.{Takes};
+ghost use Rattle.dcv_cli.specs.Refusal.{most_bytes, is_of_text, status_of};
 ghost use Rattle.dcv_cli.specs.Status.{is_determined};
 
 use crate::automaton::automaton_of;
 use crate::faults::{FormulaFault, MOST_BYTES};
 use crate::refusal::Refusal;
-use crate::taking::take;
+use crate::text::take;
 use dcv_build::Built;
 use dcv_core::Core;
 use dcv_dfa::Auto;
@@ -44,11 +43,9 @@ pub(crate) fn expanded_file<F: Files>(
 ) -> Result<Expanded, Refusal>
     ensures expanded { IfOk result (IsExpandedIn (F.told files.old) name.now) }
     ensures refused { IfErr result (λ refusal. OnTrue (is_determined (status_of refusal)) (IsRefusedFile (F.told files.old) name.now refusal)) }
-    ensures asked { Asks (name.now ∷ []) (F.asked files.old) (F.asked files.new) }
-    ensures open_faults { RisesIf (is_err_and is_open result) (F.open_faults files.old) (F.open_faults files.new) }
-    ensures read_faults { RisesIf (is_err_and is_read result) (F.read_faults files.old) (F.read_faults files.new) }
-    ensures unwritten { IfErr result (λ refusal. IsTrue (is_of_taking refusal)) }
-    ensures held { held_of (F.told files.new) ≡ held_of (F.told files.old) }
+    ensures taken { Takes name.now result
+        (of_files (F.told files.old) (F.asked files.old) (F.open_faults files.old) (F.read_faults files.old))
+        (of_files (F.told files.new) (F.asked files.new) (F.open_faults files.new) (F.read_faults files.new)) }
 {
     let too_long = Refusal::Formula(FormulaFault::Length);
     let text = take(alloc, files, name, MOST_BYTES, too_long)?;

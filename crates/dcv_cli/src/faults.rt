@@ -5,18 +5,18 @@ ghost use Rattle.dcv_io.specs.Written.{Appends, AppendsPrefix};
 ghost use Rattle.dcv_cli.specs.Refusal.{text_word_of, formula_words, automaton_words, observer_words, trace_words};
 ghost use Rattle.dcv_cli.specs.declared.faults.TraceFault.TheVariants.{Line};
 
-use crate::telling::{tell_fault, tell_fault_at, write_pieces};
+use crate::line::{tell_fault, tell_fault_at, write_pieces};
 use dcv_io::{Failed, Sink};
 use itoa::Buffer;
 
 /// The most bytes that a formula file has.
-pub const MOST_BYTES: u64 = 262_144;
+pub const MOST_BYTES: u32 = 262_144;
 
 /// The most bytes that the text of an automaton has.
-pub const MOST_AUTOMATON_BYTES: u64 = 134_217_728;
+pub const MOST_AUTOMATON_BYTES: u32 = 134_217_728;
 
 /// The most bytes that the text of an observer has.
-pub const MOST_OBSERVER_BYTES: u64 = 134_217_728;
+pub const MOST_OBSERVER_BYTES: u32 = 134_217_728;
 
 /// What is wrong with a text, at some place of it.
 #[derive(Clone, Copy, Debug, PartialEq, Eq)]
@@ -100,7 +100,7 @@ impl FormulaFault {
     {
         match self {
             FormulaFault::Length => tell_fault_at(sink, b"length", MOST_BYTES),
-            FormulaFault::Text { fault, at } => tell_fault_at(sink, fault.word(), u64::from(at)),
+            FormulaFault::Text { fault, at } => tell_fault_at(sink, fault.word(), at),
             FormulaFault::Declarations => tell_fault(sink, b"declarations"),
             FormulaFault::Outputs => tell_fault(sink, b"outputs"),
         }
@@ -127,12 +127,8 @@ impl AutomatonFault {
     {
         match self {
             AutomatonFault::Length => tell_fault(sink, b"automaton length"),
-            AutomatonFault::Syntax { at } => tell_fault_at(
-                sink,
-                b"automaton syntax",
-                u64::from(at),
-            ),
-            AutomatonFault::Table { at } => tell_fault_at(sink, b"automaton table", u64::from(at)),
+            AutomatonFault::Syntax { at } => tell_fault_at(sink, b"automaton syntax", at),
+            AutomatonFault::Table { at } => tell_fault_at(sink, b"automaton table", at),
         }
     }
 }
@@ -157,8 +153,8 @@ impl ObserverFault {
     {
         match self {
             ObserverFault::Length => tell_fault(sink, b"observer length"),
-            ObserverFault::Syntax { at } => tell_fault_at(sink, b"observer syntax", u64::from(at)),
-            ObserverFault::Names { at } => tell_fault_at(sink, b"observer names", u64::from(at)),
+            ObserverFault::Syntax { at } => tell_fault_at(sink, b"observer syntax", at),
+            ObserverFault::Names { at } => tell_fault_at(sink, b"observer names", at),
         }
     }
 }

@@ -9,11 +9,11 @@ ghost use Rattle.dcv_cli.specs.Refusal.{message_of, only};
 ghost use Rattle.dcv_cli.specs.Status.{code_of};
 ghost use Rattle.dcv_cli.specs.declared.refusal.Refusal.TheVariants.{Memory};
 
+use crate::line::write_pieces;
 use crate::refusal::Refusal;
 use crate::refused::Which;
 use crate::running::{refuse, run};
 use crate::status::Status;
-use crate::telling::write_pieces;
 use crate::words::Words;
 use dcv_io::{Files, Sink};
 use std::alloc::Global;

@@ -9,9 +9,9 @@ ghost use Rattle.dcv_cli.specs.Refusal.{refusal_of_automaton, refusal_of_observe
 
 use crate::budget_line::{Excess, Over, tell_product};
 use crate::faults::{AutomatonFault, FormulaFault, ObserverFault, TextFault, TraceFault};
+use crate::line::tell_fault;
 use crate::refused::{Refused, Which};
 use crate::status::Status;
-use crate::telling::tell_fault;
 use dcv_automaton_read::AutoFault;
 use dcv_implies::OutsideFault;
 use dcv_io::{Failed, Sink};

@@ -7,6 +7,7 @@ ghost use Rattle.dcv_cli.specs.declared.refusal.Refusal.TheVariants.{Memory, Wri
 
 use crate::faults::TraceFault;
 use crate::refusal::Refusal;
+use crate::status::Status;
 use dcv_io::{Failed, Sink, write_all};
 use dcv_replay::ReplayFault;
 use std::alloc::AllocError;
@@ -41,6 +42,9 @@ pub struct Refused {
     pub refusal: Refusal,
     pub which: Which,
 }
+
+/// How a command ends.
+pub(crate) type Ended = Result<Status, Refused>;
 
 impl Refused {
     /// Writes the line that says so. It takes no memory, since memory may have run out.

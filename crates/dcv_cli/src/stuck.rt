@@ -3,21 +3,19 @@ ghost use Rattle.std.specs.Prelude.{IfOk, IfErr};
 ghost use Rattle.dcv_syntax.specs.Plain.{PlainFile};
 ghost use Rattle.dcv_build.specs.Given.{IsCore};
 ghost use Rattle.dcv_print.specs.Verdict.{letters_of};
-ghost use Rattle.dcv_command.specs.Request.{Stuck};
 ghost use Rattle.dcv_cli.specs.Budget.{steps_of_file, IsBudgeted, NamesFirstOver};
 ghost use Rattle.dcv_cli.specs.Expanded.{IsExpanded};
-ghost use Rattle.dcv_cli.specs.Outside.{outside};
-ghost use Rattle.dcv_cli.specs.Performed.{PerformsRequest};
 ghost use Rattle.dcv_cli.specs.Stuck.{stuck_outcome, IsStuckReport};
 ghost use Rattle.dcv_cli.specs.declared.refused.Which.TheVariants.{Only};
 
-use crate::expanded::{Expanded, built, expanded_file};
+use crate::command::FormulaCommand;
+use crate::expanded::{Expanded, built};
 use crate::refusal::Refusal;
-use crate::refused::Refused;
-use crate::replying::{Reply, send};
+use crate::refused::Ended;
+use crate::reply::{Reply, reply_with};
 use crate::status::Status;
 use dcv_explore::Limits;
-use dcv_io::{Files, Sink, Target};
+use dcv_io::{Sink, Target};
 use dcv_print::put_stuck;
 use dcv_stuck::laws::{least_stuck_is_of_sets, never_stuck_goes_on};
 use dcv_stuck::least_stuck;
@@ -30,24 +28,23 @@ pub(crate) struct LeastStuck {
     least: Option<Word>,
 }
 
-/// Writes whether what has kept to the requirement in the file of this name so far can always go on.
-pub(crate) fn stuck_in_file<F: Files, O: Sink>(
-    alloc: Global,
-    name: &str,
-    limits: Limits,
-    files: &mut F,
-    out: &mut O,
-) -> Result<Status, Refused>
-    ensures { PerformsRequest (Stuck name.entry.now limits) result
-        (outside (F.told files.old) (F.asked files.old) (F.open_faults files.old) (F.read_faults files.old) (O.written out.old) (O.faults out.old))
-        (outside (F.told files.new) (F.asked files.new) (F.open_faults files.new) (F.read_faults files.new) (O.written out.new) (O.faults out.new)) }
-{
-    let expanded = expanded_file(alloc, files, name)?;
-    let found = stuck_in(alloc, &expanded, limits);
-    drop(expanded);
-    let found = found?;
-    send(&found, out)?;
-    Ok(Status::of_least(&found.least))
+/// Says whether what has kept to the requirement so far can always go on.
+#[derive(Clone, Copy)]
+pub(crate) struct StuckFinder {
+    pub limits: Limits,
+}
+
+impl FormulaCommand for StuckFinder {
+    ghost fits = { λ _. Unit {0} };
+
+    ghost right = { λ finder. IsBudgeted finder.limits Only IsStuckReport };
+
+    fn answer<O: Sink>(&self, alloc: Global, formula: Expanded, out: &mut O) -> Ended {
+        let found = stuck_in(alloc, &formula, self.limits);
+        drop(formula);
+        let found = found?;
+        reply_with(&found, Status::of_least(&found.least), out)
+    }
 }
 
 // The least stuck word of the behaviours that model the file.

@@ -1,25 +1,19 @@
 -- The arguments of a command as `clap` builds them, and which of them it finds by a name or a place.
-use Rattle.std.proofs.Common.{◌≡◌, ◌≤◌, ◌<◌, refl, sym, ap, ◌∙◌, Bool, true, false, ℕ, List, [], ◌∷◌, ◌++◌, Option, None, Some, arith, length, ne_eqb, codes}
-use Rattle.std.specs.Prelude.{find, not, is_some, ltb, ◌==◌, ◌&&◌, ◌||◌, ◌+◌, if◌then◌else◌}
-use Rattle.std.specs.List.{AllByRecursion, list_all}
-use Rattle.std.specs.Option.{option_map_or}
-use Rattle.std.specs.Str.{bytes_eq}
-use Rattle.std.proofs.Math.Bool.{or-true}
-use Rattle.std.proofs.lemmas.Bool.{false_from_ne_true, ltb-true}
-use Rattle.std.proofs.lemmas.Slice.Eq.{bytes_eq-Decides}
-use mathlib.Core.Bool.{true≢false}
-use Rattle.clap.specs.Words.{Rule, Shape, Text, new_rule}
-use Rattle.clap.specs.Lexer.{long_of}
+use Rattle.dcv_command.proofs.Common.{◌≡◌, ◌≤◌, ◌<◌, refl, sym, ap, ◌∙◌, Bool, true, false, ℕ, List, [], ◌∷◌, ◌++◌, Option, None, Some}
+use Rattle.dcv_command.proofs.Common.{arith, length, codes, find, not, is_some, ◌==◌, ◌&&◌, ◌||◌, ◌+◌, if◌then◌else◌, AllByRecursion}
+use Rattle.dcv_command.proofs.Common.{list_all, option_map_or, bytes_eq, or-true, false_from_ne_true, bytes_eq-Decides, true≢false, Rule}
+use Rattle.dcv_command.proofs.Common.{Shape, Text, long_of, accepts, arg_by_index, Unsigned, is_false, both, IsOption, has_name, Argument}
+use Rattle.dcv_command.proofs.Common.{Form, Operand, Required, WithDefault, Value, FileName, Number}
+use Rattle.std.proofs.Common.{ne_eqb}
+use Rattle.std.specs.Prelude.{ltb}
+use Rattle.std.proofs.lemmas.Bool.{ltb-true}
+use Rattle.clap.specs.Words.{new_rule}
 use Rattle.clap.specs.Simple.{filled, help_rule, new_shape, with_index}
-use Rattle.clap.specs.ValueTests.{accepts}
-use Rattle.clap.specs.Walk.{arg_by_id, arg_by_index, arg_by_long}
+use Rattle.clap.specs.Walk.{arg_by_id, arg_by_long}
 use Rattle.clap.specs.declared.builder.action.ArgAction.TheVariants.{Set}
 use Rattle.clap.specs.declared.builder.value_parser.ValueParser.{ValueParser}
-use Rattle.clap.specs.declared.builder.value_parser.ValueParser.TheVariants.{String, Unsigned}
-use Rattle.clap.proofs.SimpleLemmas.{is_false}
-use Rattle.clap.proofs.WalkLemmas.{both}
-use Rattle.dcv_command.specs.Listed.{IsOption, are_distinct, has_name}
-use Rattle.dcv_command.specs.Table.{Argument, Form, Operand, Required, WithDefault, Value, FileName, Number}
+use Rattle.clap.specs.declared.builder.value_parser.ValueParser.TheVariants.{String}
+use Rattle.dcv_command.specs.Listed.{are_distinct}
 
 -- ---- as they are built
 

@@ -1,8 +1,8 @@
 -- A command with arguments and subcommands that are added one after another.
-use Rattle.std.proofs.Common.{◌≡◌, ◌<◌, refl, sym, ap, ◌∙◌, ℕ, List, [], ◌∷◌, ◌++◌, drop, fold, get_or, length, map}
-use Rattle.std.specs.Prelude.{◌+◌}
-use Rattle.std.proofs.lemmas.List.{append-nil, append_assoc, at_drop_more}
-use Rattle.clap.specs.Words.{App, Rule, Shape, with_rule, with_subcommand}
+use Rattle.dcv_command.proofs.Common.{◌≡◌, ◌<◌, refl, sym, ap, ◌∙◌, ℕ, List, [], ◌∷◌, ◌++◌, drop, fold, length, map, ◌+◌, append-nil, App}
+use Rattle.dcv_command.proofs.Common.{Rule, Shape, with_rule, with_subcommand}
+use Rattle.std.proofs.Common.{get_or}
+use Rattle.std.proofs.lemmas.List.{append_assoc, at_drop_more}
 use Rattle.clap.specs.Simple.{on_top}
 
 pub rules_added : {X Y : Type 0} (rule : Y → Rule) (seen : X → Y) (xs : List X) (app : App)

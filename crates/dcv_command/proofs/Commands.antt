@@ -1,28 +1,23 @@
 -- Words that begin with a command's name: what `clap` finds in them is what it finds in the words after the name, and they pass its
 -- test where these do.
-use Rattle.std.proofs.Common.{◌≡◌, refl, sym, ap, ◌∙◌, Bool, true, false, List, [], ◌∷◌, ◌++◌, Option, Some, codes, is_some}
-use Rattle.std.specs.Prelude.{find, fold, map, not, option_map, ◌&&◌, ◌||◌, if◌then◌else◌}
-use Rattle.std.specs.List.{AllByRecursion, list_all, list_any}
-use Rattle.std.specs.Option.{option_map_or}
-use Rattle.std.specs.Str.{bytes_eq}
-use Rattle.std.proofs.Math.Bool.{or-true}
-use Rattle.std.proofs.lemmas.Bool.{false_from_ne_true}
-use Rattle.std.proofs.lemmas.List.{append-nil, append_assoc}
-use Rattle.std.proofs.lemmas.Slice.Eq.{bytes_eq-Decides}
-use mathlib.Core.Bool.{true≢false}
-use Rattle.clap.specs.Words.{Kinds, Row, Rule, Shape, Text, built, fault_of, subcommand_of, takes}
-use Rattle.clap.specs.Kinds.{or_else}
-use Rattle.clap.specs.Walk.{Held, Names, Step, Walk, after_step, answers_to, finished, idle, nothing_held, rows_after, settled, subcommand_met, subcommand_or_other, walk, walk_from, walked}
+use Rattle.dcv_command.proofs.Common.{◌≡◌, refl, sym, ap, ◌∙◌, Bool, true, false, List, [], ◌∷◌, ◌++◌, Option, Some, codes, is_some, find}
+use Rattle.dcv_command.proofs.Common.{fold, map, not, option_map, ◌&&◌, ◌||◌, if◌then◌else◌, AllByRecursion, list_all, list_any}
+use Rattle.dcv_command.proofs.Common.{option_map_or, bytes_eq, or-true, false_from_ne_true, append-nil, bytes_eq-Decides, true≢false, Kinds}
+use Rattle.dcv_command.proofs.Common.{Row, Rule, Shape, Text, fault_of, takes, or_else, Held, Names, Step, Walk, after_step, finished, idle}
+use Rattle.dcv_command.proofs.Common.{nothing_held, rows_after, settled, subcommand_met, subcommand_or_other, walk, walk_from, check_fault}
+use Rattle.dcv_command.proofs.Common.{level_fault, other_fault, settle_fault, step_fault, turn_fault, default_passes, is_valid}
+use Rattle.dcv_command.proofs.Common.{settle_passes, step_passes, turn_passes, is_false, both, program, asked_of, request_in, Argument}
+use Rattle.dcv_command.proofs.Common.{Command, commands}
+use Rattle.std.proofs.lemmas.List.{append_assoc}
+use Rattle.clap.specs.Words.{built, subcommand_of}
+use Rattle.clap.specs.Walk.{answers_to, walked}
 use Rattle.clap.specs.Simple.{built_leaf, entered, help_shape, label_of, names_of, rows_at}
-use Rattle.clap.specs.Faults.{check_fault, defaults_fault, entered_fault, level_fault, other_fault, settle_fault, step_fault, turn_fault, walk_fault}
-use Rattle.clap.specs.Takes.{default_passes, entered_passes, is_valid, level_passes, other_passes, settle_passes, step_passes, turn_passes, walk_passes}
+use Rattle.clap.specs.Faults.{defaults_fault, entered_fault, walk_fault}
+use Rattle.clap.specs.Takes.{entered_passes, level_passes, other_passes, walk_passes}
 use Rattle.clap.specs.declared.error.kind.ErrorKind.TheVariants.{DisplayHelp, InvalidSubcommand}
 use Rattle.clap.proofs.OnLiterals.{clap_on_literals}
-use Rattle.clap.proofs.SimpleLemmas.{is_false}
-use Rattle.clap.proofs.WalkLemmas.{both, find-map}
-use Rattle.dcv_command.specs.Program.{program}
-use Rattle.dcv_command.specs.Request.{asked_of, request_among, request_in}
-use Rattle.dcv_command.specs.Table.{Argument, Command, commands}
+use Rattle.clap.proofs.WalkLemmas.{find-map}
+use Rattle.dcv_command.specs.Request.{request_among}
 use Rattle.dcv_command.proofs.Arguments.{are_sound, built_shape}
 
 -- ---- after the name

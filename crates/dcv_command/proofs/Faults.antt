@@ -1,10 +1,11 @@
 -- What it says that `clap` refuses the words.
-use Rattle.std.proofs.Common.{◌≡◌, ◌≢◌, inl, inr, true, List, [], ◌∷◌, refl, subst, sym, Result, Ok, Err}
-use Rattle.clap.specs.Words.{kind_of, App, FailsBy, HasKind, HasMatchesOf, Kinds, Text, fault_of, is_simple_and_free, subcommand_of, subcommand_rows_of, takes}
+use Rattle.dcv_command.proofs.Common.{◌≡◌, true, List, [], ◌∷◌, refl, subst, sym, App, Kinds, Text, fault_of, subcommand_rows_of, takes}
+use Rattle.dcv_command.proofs.Common.{program}
+use Rattle.std.proofs.Common.{◌≢◌, inl, inr, Result, Ok, Err}
+use Rattle.clap.specs.Words.{kind_of, FailsBy, HasKind, HasMatchesOf, is_simple_and_free, subcommand_of}
 use Rattle.clap.specs.declared.parser.matches.ArgMatches.{ArgMatches}
 use Rattle.clap.specs.declared.error.Error.{Error}
 use Rattle.clap.specs.declared.error.kind.ErrorKind.TheVariants.{OutOfMemory}
-use Rattle.dcv_command.specs.Program.{program}
 use Rattle.dcv_command.specs.declared.words.WordsFault.{WordsFault}
 use Rattle.dcv_command.specs.declared.words.WordsFault.TheVariants.{Usage, Memory}
 use Rattle.dcv_command.specs.Seen.{IsUsageOnlyWhere}

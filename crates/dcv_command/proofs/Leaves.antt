@@ -1,13 +1,9 @@
 -- What stands in the rows after the words of a subcommand in which it has no fault: whatever its shape, each argument that is
 -- required, and each that has a default, has a row that can be read.
-use Rattle.std.proofs.Common.{◌≡◌, refl, Bool, true, false, List, [], ◌∷◌}
-use Rattle.std.specs.Prelude.{◌&&◌, ◌||◌, not}
-use Rattle.std.specs.List.{AllByRecursion, list_any}
-use Rattle.clap.specs.Words.{Kinds, Row, Rule, Shape, Text}
-use Rattle.clap.specs.Kinds.{check_kinds, or_else}
-use Rattle.clap.specs.Faults.{check_fault, defaults_fault, level_fault, settle_fault, walk_fault}
-use Rattle.clap.specs.Takes.{is_given}
-use Rattle.clap.specs.Walk.{Held, finished, has_row, nothing_held, rows_after, settled, walk, walk_from}
+use Rattle.dcv_command.proofs.Common.{◌≡◌, refl, Bool, true, false, List, [], ◌∷◌, ◌&&◌, ◌||◌, not, AllByRecursion, list_any, Kinds, Row}
+use Rattle.dcv_command.proofs.Common.{Rule, Shape, Text, check_kinds, or_else, check_fault, level_fault, settle_fault, is_given, Held}
+use Rattle.dcv_command.proofs.Common.{finished, has_row, nothing_held, rows_after, settled, walk, walk_from}
+use Rattle.clap.specs.Faults.{defaults_fault, walk_fault}
 use Rattle.dcv_command.proofs.Rows.{AreReadable, HasDefault, HasDefaultRows, HasReadableDefaults, IsFound, found_readable, given_is_there, has_default_rows, readable_with_defaults}
 use Rattle.dcv_command.proofs.Steps.{EachKeeps, first_is_empty, last_is_empty, settled_keeps, walk_keeps}
 

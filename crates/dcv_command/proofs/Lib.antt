@@ -1,4 +1,4 @@
-pub mod Examples
+pub mod Common
 pub mod Faults
 pub mod Commands
 pub mod Runs

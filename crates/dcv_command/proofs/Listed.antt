@@ -1,26 +1,20 @@
 -- Listed words are taken: the walk over a command's operands, each at its place, and then over its options, each by its name.
-use Rattle.std.proofs.Common.{◌≡◌, ◌<◌, refl, sym, ap, ◌∙◌, subst, Bool, true, false, ℕ, suc, zero, List, [], ◌∷◌, ◌++◌, Some, arith, length}
-use Rattle.std.specs.Prelude.{Contains, find, fold, not, slice_index_or, ◌==◌, ◌&&◌, ◌||◌, ◌+◌, if◌then◌else◌, option_and_then, codes}
-use Rattle.std.specs.List.{AllByRecursion, list_all, list_any}
-use Rattle.std.specs.Option.{option_map_or}
-use Rattle.std.specs.Str.{bytes_eq}
-use Rattle.std.proofs.Math.Bool.{or-true}
-use Rattle.std.proofs.lemmas.Bool.{eq-eqb, false_from_ne_true, ltb-true}
-use Rattle.std.proofs.lemmas.Slice.Eq.{bytes_eq-Decides}
-use mathlib.Core.Bool.{true≢false}
-use Rattle.clap.specs.Words.{Kinds, Row, Shape, Text, reading_of}
-use Rattle.clap.specs.Faults.{check_fault, defaults_fault}
-use Rattle.clap.specs.Kinds.{check_kinds, or_else, values_kinds}
-use Rattle.clap.specs.Takes.{default_passes, is_given, is_valid}
-use Rattle.clap.specs.ValueTests.{accepts}
+use Rattle.dcv_command.proofs.Common.{◌≡◌, ◌<◌, refl, sym, ap, ◌∙◌, subst, Bool, true, false, ℕ, suc, List, [], ◌∷◌, ◌++◌, Some, arith}
+use Rattle.dcv_command.proofs.Common.{length, find, fold, not, ◌==◌, ◌&&◌, ◌||◌, ◌+◌, if◌then◌else◌, option_and_then, codes, AllByRecursion}
+use Rattle.dcv_command.proofs.Common.{list_all, list_any, option_map_or, bytes_eq, or-true, false_from_ne_true, bytes_eq-Decides}
+use Rattle.dcv_command.proofs.Common.{true≢false, Kinds, Row, Shape, Text, reading_of, check_fault, check_kinds, or_else, default_passes}
+use Rattle.dcv_command.proofs.Common.{is_given, is_valid, accepts, Held, Walk, arg_by_index, finished, has_row, idle, nothing_held, settled}
+use Rattle.dcv_command.proofs.Common.{walk_from, with_default, is_false, both, IsOption, has_name, asked_in, Argument, Asks, Command, Form}
+use Rattle.dcv_command.proofs.Common.{Operand, Required, WithDefault, Of, Value, FileName, Number, commands, value_of}
+use Rattle.std.proofs.Common.{zero}
+use Rattle.std.specs.Prelude.{Contains, slice_index_or}
+use Rattle.std.proofs.lemmas.Bool.{eq-eqb, ltb-true}
+use Rattle.clap.specs.Faults.{defaults_fault}
+use Rattle.clap.specs.Kinds.{values_kinds}
 use Rattle.clap.specs.Values.{refused_kind}
-use Rattle.clap.specs.Walk.{Held, Walk, arg_by_index, finished, has_row, idle, is_empty, nothing_held, settled, walk_from, with_default}
-use Rattle.clap.proofs.SimpleLemmas.{is_false}
-use Rattle.clap.proofs.WalkLemmas.{both}
+use Rattle.clap.specs.Walk.{is_empty}
 use Rattle.dcv_command.specs.Laws.{ListedWordsAreTaken}
-use Rattle.dcv_command.specs.Listed.{AreGiven, AskFor, CanBeGiven, IsChosen, IsOption, OrElse, Values, are_distinct, asked_with, has_name, if_operand, operand_words, option_words, word_of}
-use Rattle.dcv_command.specs.Request.{asked_in}
-use Rattle.dcv_command.specs.Table.{Argument, Asks, Command, Form, Operand, Required, WithDefault, Of, Value, FileName, Number, commands, value_of}
+use Rattle.dcv_command.specs.Listed.{AreGiven, AskFor, CanBeGiven, IsChosen, OrElse, Values, are_distinct, asked_with, if_operand, operand_words, option_words, word_of}
 use Rattle.dcv_command.proofs.Arguments.{IsLookedUp, Reaches, all_looked_up, are_few, built_rule, built_rules, built_shape, default_fits, defaults_of, distinct, is_required, is_small, next_place, parser, placed, reaches_all, reaches_rest}
 use Rattle.dcv_command.proofs.Commands.{IsCommand, each_command}
 use Rattle.dcv_command.proofs.Leaves.{HasRequiredRows, are_found}

@@ -1,14 +1,12 @@
 -- Names of files and numbers among words: none of them begins with a dash, and a number in decimal is read as that number.
-use Rattle.std.proofs.Common.{◌≡◌, refl, sym, ap, ◌∙◌, subst, true, false, ℕ, ◌<◌, ◌≤◌, ◌^◌, [], ◌∷◌, arith, ne_eqb}
-use Rattle.std.specs.Prelude.{◌==◌}
+use Rattle.dcv_command.proofs.Common.{◌≡◌, refl, sym, ap, ◌∙◌, subst, true, false, ℕ, ◌<◌, ◌≤◌, [], ◌∷◌, arith, ◌==◌, digits_value}
+use Rattle.dcv_command.proofs.Common.{without_leading_plus, Text, Unsigned, is_unsigned_in}
+use Rattle.std.proofs.Common.{◌^◌, ne_eqb}
 use Rattle.std.specs.Fmt.{decimal}
-use Rattle.std.specs.Str.Parse.{IsNumeral, digits_value, without_leading_plus}
+use Rattle.std.specs.Str.Parse.{IsNumeral}
 use Rattle.std.proofs.lemmas.Fmt.{decimal_is_IsNumeral}
 use Rattle.std.proofs.lemmas.Str.Parse.{digit_from_value}
-use Rattle.clap.specs.Words.{Text}
-use Rattle.clap.specs.declared.builder.value_parser.ValueParser.TheVariants.{Unsigned}
 use Rattle.clap.proofs.ValueTestLemmas.{Accepts-accepts}
-use Rattle.clap.specs.ValueTests.{is_unsigned_in}
 use Rattle.dcv_command.specs.Listed.{IsFileName}
 use Rattle.dcv_command.proofs.Plain.{HasNoDash}
 

@@ -1,13 +1,9 @@
 -- Words that do not begin with a dash, in `clap`'s walk of a subcommand that has none below it.
-use Rattle.std.proofs.Common.{◌≡◌, refl, ap, ◌∙◌, true, false, List, ℕ, [], ◌∷◌, None}
-use Rattle.std.specs.Prelude.{◌==◌, ◌&&◌}
-use Rattle.std.specs.Str.{bytes_eq}
-use Rattle.clap.specs.Words.{Rule, Shape, Text}
-use Rattle.clap.specs.Kinds.{or_else}
-use Rattle.clap.specs.Lexer.{long_of, short_of}
-use Rattle.clap.specs.Walk.{Held, Step, Waiting, idle, option, positional, Walk, after_step, plain_word, subcommand_met, walked, word_met}
-use Rattle.clap.specs.Faults.{step_fault, turn_fault, word_fault}
-use Rattle.clap.specs.Takes.{step_passes, turn_passes, word_passes}
+use Rattle.dcv_command.proofs.Common.{◌≡◌, refl, ap, ◌∙◌, true, false, List, ℕ, [], ◌∷◌, None, ◌==◌, ◌&&◌, bytes_eq, Rule, Shape, Text}
+use Rattle.dcv_command.proofs.Common.{or_else, long_of, short_of, Held, Step, Waiting, idle, option, positional, Walk, after_step}
+use Rattle.dcv_command.proofs.Common.{plain_word, subcommand_met, word_met, step_fault, turn_fault, word_fault, step_passes, turn_passes}
+use Rattle.clap.specs.Walk.{walked}
+use Rattle.clap.specs.Takes.{word_passes}
 
 -- the word is not empty, and its first byte is no dash
 abbrev pub HasNoDash : Text → Type 0

@@ -1,18 +1,16 @@
 -- The numbers of a request are in the ranges of their options and operands.
-use Rattle.std.proofs.Common.{◌≡◌, ◌≤◌, refl, subst, ℕ, Bool, true, false, List, [], ◌∷◌, Option, None, Some, option_and_then}
-use Rattle.std.specs.Prelude.{if◌then◌else◌}
-use Rattle.std.specs.List.{AllByRecursion}
-use Rattle.std.specs.Str.{bytes_eq}
-use Rattle.std.specs.Str.Parse.{digits_value, without_leading_plus}
-use Rattle.clap.specs.Words.{Row, Text, one_of}
-use Rattle.clap.specs.ValueTests.{is_unsigned_in}
-use Rattle.clap.specs.declared.builder.value_parser.ValueParser.TheVariants.{Unsigned}
+use Rattle.dcv_command.proofs.Common.{◌≡◌, ◌≤◌, refl, subst, ℕ, Bool, true, false, List, [], ◌∷◌, Option, None, Some, option_and_then}
+use Rattle.dcv_command.proofs.Common.{if◌then◌else◌, AllByRecursion, bytes_eq, digits_value, without_leading_plus, Row, Text}
+use Rattle.dcv_command.proofs.Common.{is_unsigned_in, Unsigned, asked_in, asked_of, number_of, request_of_subcommand, value_in, Argument}
+use Rattle.dcv_command.proofs.Common.{Asks, Command, Of, Value, FileName, Number, commands}
+use Rattle.clap.specs.Words.{one_of}
 use Rattle.clap.proofs.ValueTestLemmas.{accepts-Accepts}
 use Rattle.dcv_language.specs.declared.kind.Kind.{Kind}
-use Rattle.dcv_language.specs.declared.kind.Kind.TheVariants.{Check, Automaton, Lustre, C, All}
+use Rattle.dcv_language.specs.declared.kind.Kind.TheVariants.{Check, Automaton, Lustre as LustreReport, C as CReport, All}
+use Rattle.dcv_command.specs.declared.words.Subset.TheVariants.{Lustre, C}
 use Rattle.dcv_language.specs.Limits.{most_states, most_nodes}
-use Rattle.dcv_command.specs.Request.{AreInRange, IsInRange, asked_in, asked_of, number_of, request_among, request_of_subcommand, value_in}
-use Rattle.dcv_command.specs.Table.{Argument, Asks, Command, Of, Request, Value, FileName, Number, commands, limits_of, report}
+use Rattle.dcv_command.specs.Request.{AreInRange, IsInRange, request_among}
+use Rattle.dcv_command.specs.Table.{Request, certify, convert, implies, limits_of, replay, report, stuck, sweep, synth}
 
 number_is_in_range : (least most : ℕ) (text : Option Text) (number : ℕ) → option_and_then (number_of least most) text ≡ Some number
     → (least ≤ number) × (number ≤ most)
@@ -58,41 +56,23 @@ IsFine command = AsksInRange command.arguments command.asks
 limits_are_fine : (states nodes : ℕ) → (1 ≤ states) × (states ≤ most_states) → (1 ≤ nodes) × (nodes ≤ most_nodes) → AreInRange (limits_of states nodes)
 limits_are_fine states nodes some few = record { some_states = some.0; few_states = some.1; some_nodes = few.0; few_nodes = few.1 }
 
-report_is_fine : (kind : Kind) → IsFine (report kind)
-report_is_fine kind = λ file _ states some nodes few. limits_are_fine states nodes some few
+of_file : (kind : Kind) → IsFine (report kind)
+of_file kind file _ states some nodes few = limits_are_fine states nodes some few
+
+of_two : IsFine implies
+of_two first _ second _ states some nodes few = limits_are_fine states nodes some few
+
+of_game : IsFine synth
+of_game file _ inputs small states some nodes few = record { few_inputs = small.1; within = limits_are_fine states nodes some few }
+
+of_draw : IsFine sweep
+of_draw seed small count some = record { small = small.1; some = some.0; few = some.1 }
+
+after_reports : AllByRecursion IsFine (certify ∷ convert ∷ implies ∷ stuck ∷ synth ∷ replay Lustre ∷ replay C ∷ sweep ∷ [])
+after_reports = (λ _ _. tt, (λ _ _ _ _. tt, (of_two, (of_file Check, (of_game, (λ _ _ _ _. tt, (λ _ _ _ _. tt, (of_draw, tt))))))))
 
 each_is_fine : AllByRecursion IsFine commands
-each_is_fine = (
-  report_is_fine Check,
-  (
-    report_is_fine Automaton,
-    (
-      report_is_fine Lustre,
-      (
-        report_is_fine C,
-        (
-          report_is_fine All,
-          (
-            λ automaton _. tt,
-            (
-              λ automaton _ to _. tt,
-              (
-                λ first _ second _ states some nodes few. limits_are_fine states nodes some few,
-                (
-                  λ file _ states some nodes few. limits_are_fine states nodes some few,
-                  (
-                    λ file _ inputs small states some nodes few. record { few_inputs = small.1; within = limits_are_fine states nodes some few },
-                    (λ observer _ trace _. tt, (λ observer _ trace _. tt, (λ seed small count some. record { small = small.1; some = some.0; few = some.1 }, tt))),
-                  ),
-                ),
-              ),
-            ),
-          ),
-        ),
-      ),
-    ),
-  ),
-)
+each_is_fine = (of_file Check, (of_file Automaton, (of_file LustreReport, (of_file CReport, (of_file All, after_reports)))))
 
 among_in_range : (left : List Command) (name : Text) (rows : List Row) (request : Request) → AllByRecursion IsFine left → request_among left name rows ≡ Some request
     → IsInRange request

@@ -1,14 +1,14 @@
 -- What the matches of a subcommand ask for.
-use Rattle.std.proofs.Common.{◌≡◌, List, Option, None, Some, refl, subst, option_map}
+use Rattle.dcv_command.proofs.Common.{◌≡◌, List, Option, None, Some, refl, subst, option_map, Row, Text, found_of, subcommand_rows_of}
+use Rattle.dcv_command.proofs.Common.{request_in, request_of_subcommand}
 use Rattle.std.specs.Prelude.{Box}
 use Rattle.std.specs.Box.{box_value}
-use Rattle.clap.specs.Words.{Row, Text, found_of, rows_of, subcommand_rows_of, subcommand_name_of}
+use Rattle.clap.specs.Words.{rows_of, subcommand_name_of}
 use Rattle.clap.specs.Simple.{subcommand_rows}
 use Rattle.clap.specs.declared.parser.matches.ArgMatches.{ArgMatches}
 use Rattle.clap.specs.declared.parser.matches.ArgMatches.TheViews.{out-ArgMatches, out-SubCommand}
 use Rattle.clap.specs.declared.parser.matches.SubCommand.{SubCommand}
 use Rattle.clap.specs.declared.parser.matches.Found.{Found}
-use Rattle.dcv_command.specs.Request.{request_in, request_of_subcommand}
 
 module _ {Z : Type 0} where
   -- a subcommand with this name and these matches

@@ -1,25 +1,16 @@
 -- Rows that a request can be read from: each has a first value, of which something is known by the name of its argument.
-use Rattle.std.proofs.Common.{◌≡◌, refl, sym, ap, ◌∙◌, subst, Bool, true, false, List, [], ◌∷◌, ◌++◌, None, Some}
-use Rattle.std.specs.Prelude.{find, fold, slice_get, ◌||◌, if◌then◌else◌, option_and_then, option_map}
-use Rattle.std.specs.List.{AllByRecursion}
-use Rattle.std.specs.Option.{option_map_or}
-use Rattle.std.specs.Str.{bytes_eq}
-use Rattle.std.specs.Str.Parse.{digits_value, without_leading_plus}
-use Rattle.std.proofs.lemmas.Bool.{false_from_ne_true}
-use Rattle.std.proofs.lemmas.Slice.Eq.{bytes_eq-Decides}
-use mathlib.Core.Bool.{true≢false}
-use Rattle.clap.specs.Words.{Row, Rule, Text}
-use Rattle.clap.specs.Facts.{explicit_source}
-use Rattle.clap.specs.Takes.{is_given}
-use Rattle.clap.specs.ValueTests.{accepts}
+use Rattle.dcv_command.proofs.Common.{◌≡◌, refl, sym, ap, ◌∙◌, subst, Bool, true, false, List, [], ◌∷◌, ◌++◌, None, Some, find, fold, ◌||◌}
+use Rattle.dcv_command.proofs.Common.{if◌then◌else◌, option_and_then, option_map, AllByRecursion, option_map_or, bytes_eq, digits_value}
+use Rattle.dcv_command.proofs.Common.{without_leading_plus, false_from_ne_true, bytes_eq-Decides, true≢false, Row, Rule, Text}
+use Rattle.dcv_command.proofs.Common.{explicit_source, is_given, accepts, has_row, with_default, number_of, value_in, Value, FileName}
+use Rattle.dcv_command.proofs.Common.{Number, value_of}
+use Rattle.std.specs.Prelude.{slice_get}
 use Rattle.clap.specs.Values.{read_as}
-use Rattle.clap.specs.Walk.{default_rows, has_row, reading_by, row_text, stronger, with_default, with_values, without}
+use Rattle.clap.specs.Walk.{default_rows, reading_by, row_text, stronger, with_values, without}
 use Rattle.clap.specs.declared.builder.value_parser.Reading.{Reading}
 use Rattle.clap.specs.declared.builder.value_parser.Reading.TheVariants.{AsWritten}
 use Rattle.clap.specs.declared.parser.matches.ValueSource.{ValueSource}
 use Rattle.clap.specs.declared.parser.matches.ValueSource.TheVariants.{DefaultValue}
-use Rattle.dcv_command.specs.Request.{number_of, value_in}
-use Rattle.dcv_command.specs.Table.{Value, FileName, Number, value_of}
 use Rattle.dcv_command.proofs.Arguments.{parser}
 
 -- what is known of the first value of an argument, by its name

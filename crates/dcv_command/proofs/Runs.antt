@@ -1,15 +1,13 @@
 -- Words after a subcommand's name, word by word to the end of `clap`'s walk over them.
-use Rattle.std.proofs.Common.{◌≡◌, refl, ap, ◌∙◌, true, false, List, ℕ, [], ◌∷◌, Some}
-use Rattle.std.specs.Prelude.{fold, ◌&&◌, Bool, Option}
-use Rattle.std.specs.List.{list_all}
-use Rattle.clap.specs.Words.{Kinds, Row, Shape, Text}
-use Rattle.clap.specs.Kinds.{or_else}
-use Rattle.clap.specs.Walk.{Held, Waiting, Walk, finished, nothing_held, plain_word, settled, walk, walk_from, walked}
-use Rattle.clap.specs.Faults.{check_fault, defaults_fault, level_fault, settle_fault, step_fault, turn_fault, walk_fault}
-use Rattle.clap.specs.Takes.{default_passes, is_valid, level_passes, settle_passes, step_passes, turn_passes, walk_passes}
+use Rattle.dcv_command.proofs.Common.{◌≡◌, refl, ap, ◌∙◌, true, false, List, ℕ, [], ◌∷◌, Some, fold, ◌&&◌, Bool, Option, list_all, Kinds}
+use Rattle.dcv_command.proofs.Common.{Row, Shape, Text, or_else, Held, Waiting, Walk, finished, nothing_held, plain_word, settled, walk}
+use Rattle.dcv_command.proofs.Common.{walk_from, check_fault, level_fault, settle_fault, step_fault, turn_fault, default_passes, is_valid}
+use Rattle.dcv_command.proofs.Common.{settle_passes, step_passes, turn_passes, asked_of, request_in, request_of_subcommand, Command}
+use Rattle.clap.specs.Walk.{walked}
+use Rattle.clap.specs.Faults.{defaults_fault, walk_fault}
+use Rattle.clap.specs.Takes.{level_passes, walk_passes}
 use Rattle.dcv_command.specs.Listed.{AskFor}
-use Rattle.dcv_command.specs.Request.{Request, asked_of, request_in, request_of_subcommand}
-use Rattle.dcv_command.specs.Table.{Command}
+use Rattle.dcv_command.specs.Request.{Request}
 use Rattle.dcv_command.proofs.Arguments.{built_shape}
 use Rattle.dcv_command.proofs.Commands.{IsCommand, faults_below, found_below, takes_below}
 use Rattle.dcv_command.proofs.Plain.{HasNoDash, after_plain, going, turn_plain, turn_plain_passes, walked_plain}

@@ -1,18 +1,19 @@
 -- What each use of an argument keeps of the rows, a walk in which no fault is found keeps.
-use Rattle.std.proofs.Common.{◌≡◌, refl, ap, ℕ, zero, suc, Bool, true, false, List, [], ◌∷◌, Option, None, Some}
-use Rattle.std.specs.Prelude.{find, fold, is_some, slice_get, ◌&&◌, if◌then◌else◌}
-use Rattle.std.specs.Option.{option_map_or}
-use Rattle.std.specs.Str.{bytes_eq, chars}
-use mathlib.Core.Bool.{true≢false}
-use Rattle.clap.specs.Words.{Row, Rule, Shape, Text}
-use Rattle.clap.specs.Kinds.{Kinds, or_else}
-use Rattle.clap.specs.Lexer.{long_of, short_of}
-use Rattle.clap.specs.Walk.{Held, Names, Outcome, done, waits, plain, refused, Step, next, trailing, subcommand, value, Waiting, idle, option, positional, Walk}
-use Rattle.clap.specs.Walk.{after_flag, after_step, arg_by_id, arg_by_index, arg_by_long, arg_by_short, attached_value, bundle, bundle_met, bundle_step, flag_met, is_pending, long_met, long_or_other}
-use Rattle.clap.specs.Walk.{option_met, option_word, plain_word, reacted, settled, settled_rows, short_met, short_or_plain, subcommand_met, subcommand_or_other}
-use Rattle.clap.specs.Walk.{takes_several, takes_values, to_positional, used, used_by_id, walked, walked_from, word_met}
-use Rattle.clap.specs.Faults.{bundle_fault, bundle_step_fault, flag_word_fault, flags_fault, long_fault, option_fault, other_fault, positional_fault, react_fault, settle_fault}
-use Rattle.clap.specs.Faults.{short_fault, step_fault, stray_fault, turn_fault, use_fault, walk_fault, word_fault}
+use Rattle.dcv_command.proofs.Common.{◌≡◌, refl, ap, ℕ, suc, Bool, true, false, List, [], ◌∷◌, Option, None, Some, find, fold, is_some}
+use Rattle.dcv_command.proofs.Common.{◌&&◌, if◌then◌else◌, option_map_or, bytes_eq, true≢false, Row, Rule, Shape, Text, or_else, long_of}
+use Rattle.dcv_command.proofs.Common.{short_of, Held, Names, Step, trailing, Waiting, idle, option, positional, Walk, after_flag}
+use Rattle.dcv_command.proofs.Common.{after_step, arg_by_index, long_or_other, plain_word, settled, subcommand_met, subcommand_or_other}
+use Rattle.dcv_command.proofs.Common.{to_positional, word_met, other_fault, settle_fault, step_fault, turn_fault, word_fault}
+use Rattle.std.proofs.Common.{zero}
+use Rattle.std.specs.Prelude.{slice_get}
+use Rattle.std.specs.Str.{chars}
+use Rattle.clap.specs.Kinds.{Kinds}
+use Rattle.clap.specs.Walk.{Outcome, done, waits, plain, refused, next, subcommand, value}
+use Rattle.clap.specs.Walk.{arg_by_id, arg_by_long, arg_by_short, attached_value, bundle, bundle_met, bundle_step, flag_met, is_pending, long_met}
+use Rattle.clap.specs.Walk.{option_met, option_word, reacted, settled_rows, short_met, short_or_plain}
+use Rattle.clap.specs.Walk.{takes_several, takes_values, used, used_by_id, walked, walked_from}
+use Rattle.clap.specs.Faults.{bundle_fault, bundle_step_fault, flag_word_fault, flags_fault, long_fault, option_fault, positional_fault, react_fault}
+use Rattle.clap.specs.Faults.{short_fault, stray_fault, use_fault, walk_fault}
 
 -- ---- parts of a list of faults
 

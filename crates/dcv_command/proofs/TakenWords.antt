@@ -1,25 +1,21 @@
 -- Words in which no fault is found name a subcommand, and each subcommand asks for something.
-use Rattle.std.proofs.Common.{◌≡◌, ℕ, Bool, true, false, List, [], ◌∷◌, Option, None, Some, refl, sym, subst, codes, ap, ◌∙◌}
-use Rattle.std.specs.Prelude.{IsSome, is_some, find, ◌||◌, option_and_then, option_map, fold, not, ◌&&◌, if◌then◌else◌}
-use Rattle.std.specs.Option.{option_map_or}
-use Rattle.std.specs.Str.{bytes_eq}
-use Rattle.std.specs.List.{AllByRecursion, list_any}
-use Rattle.std.proofs.lemmas.Slice.Eq.{bytes_eq-Decides}
-use mathlib.Core.Bool.{true≢false}
-use Rattle.clap.specs.Words.{Text, Row, Rule, Shape, built}
-use Rattle.clap.specs.Walk.{Held, Names, Walk, Waiting, idle, option, positional, Step, next, trailing, subcommand, value, Outcome, done, waits, refused, plain}
-use Rattle.std.proofs.lemmas.Bool.{false_from_ne_true}
-use Rattle.clap.specs.Facts.{explicit_source}
-use Rattle.clap.specs.Takes.{is_given}
-use Rattle.clap.specs.Lexer.{long_of, short_of}
-use Rattle.clap.specs.Walk.{answers_to, finished, settled, nothing_held, walk, walk_from, walked, walked_from, word_met, rows_after, subcommand_met, subcommand_or_other, long_or_other, after_flag, plain_word, after_step, to_positional, arg_by_index}
+use Rattle.dcv_command.proofs.Common.{◌≡◌, ℕ, Bool, true, false, List, [], ◌∷◌, Option, None, Some, refl, sym, subst, codes, ap, ◌∙◌}
+use Rattle.dcv_command.proofs.Common.{is_some, find, ◌||◌, option_and_then, option_map, fold, not, ◌&&◌, if◌then◌else◌, option_map_or}
+use Rattle.dcv_command.proofs.Common.{bytes_eq, AllByRecursion, list_any, bytes_eq-Decides, true≢false, Text, Row, Rule, Shape, Held, Names}
+use Rattle.dcv_command.proofs.Common.{Walk, Waiting, idle, option, positional, Step, trailing, false_from_ne_true, explicit_source}
+use Rattle.dcv_command.proofs.Common.{is_given, long_of, short_of, finished, settled, nothing_held, walk, walk_from, word_met, rows_after}
+use Rattle.dcv_command.proofs.Common.{subcommand_met, subcommand_or_other, long_or_other, after_flag, plain_word, after_step, to_positional}
+use Rattle.dcv_command.proofs.Common.{arg_by_index, check_kinds, check_fault, level_fault, settle_fault, turn_fault, step_fault, word_fault}
+use Rattle.dcv_command.proofs.Common.{other_fault, program, request_in, request_of_subcommand, Command, commands}
+use Rattle.std.specs.Prelude.{IsSome}
+use Rattle.clap.specs.Words.{built}
+use Rattle.clap.specs.Walk.{next, subcommand, value, Outcome, done, waits, refused, plain}
+use Rattle.clap.specs.Walk.{answers_to, walked, walked_from}
 use Rattle.clap.specs.Simple.{built_leaf, entered, help_shape, label_of, rows_at, names_of, subcommand_of}
 use Rattle.clap.specs.declared.error.kind.ErrorKind.TheVariants.{DisplayHelp, InvalidSubcommand}
-use Rattle.clap.specs.Kinds.{Kinds, check_kinds}
-use Rattle.clap.specs.Faults.{check_fault, level_fault, entered_fault, settle_fault, defaults_fault, walk_fault, turn_fault, step_fault, word_fault, other_fault}
-use Rattle.dcv_command.specs.Program.{program}
-use Rattle.dcv_command.specs.Request.{IsTaken, Request, request_in, request_of, request_of_subcommand}
-use Rattle.dcv_command.specs.Table.{Command, commands}
+use Rattle.clap.specs.Kinds.{Kinds}
+use Rattle.clap.specs.Faults.{entered_fault, defaults_fault, walk_fault}
+use Rattle.dcv_command.specs.Request.{IsTaken, Request, request_of}
 use Rattle.dcv_command.specs.Laws.{TakenWordsAsk}
 use Rattle.dcv_command.proofs.Arguments.{built_rules, built_shape}
 use Rattle.dcv_command.proofs.Commands.{IsCommand, each_command, leaves}

@@ -1,20 +1,15 @@
 -- Words in which a command has no fault give each of its arguments a value, and so ask for something.
-use Rattle.std.proofs.Common.{◌≡◌, refl, sym, subst, Bool, true, false, ℕ, suc, length, arith, List, [], ◌∷◌, Option, None, Some}
-use Rattle.std.specs.Prelude.{IfSome, IsSome, find, ◌==◌, if◌then◌else◌, option_and_then}
-use Rattle.std.specs.List.{AllByRecursion}
-use Rattle.std.specs.Str.{bytes_eq}
+use Rattle.dcv_command.proofs.Common.{◌≡◌, refl, sym, subst, Bool, true, false, ℕ, suc, length, arith, List, [], ◌∷◌, Option, None, Some}
+use Rattle.dcv_command.proofs.Common.{find, ◌==◌, if◌then◌else◌, option_and_then, AllByRecursion, bytes_eq, true≢false, Kinds, Row, Text}
+use Rattle.dcv_command.proofs.Common.{reading_of, or_else, level_fault, accepts, nothing_held, rows_after, asked_in, value_in, Argument}
+use Rattle.dcv_command.proofs.Common.{Asks, Form, Operand, Required, WithDefault, Of, Value, FileName, Number}
+use Rattle.std.specs.Prelude.{IfSome, IsSome}
 use Rattle.std.proofs.lemmas.Bool.{eqb-true}
-use mathlib.Core.Bool.{true≢false}
-use Rattle.clap.specs.Words.{Kinds, Row, Text, reading_of}
-use Rattle.clap.specs.Kinds.{or_else, range_kinds}
-use Rattle.clap.specs.Faults.{level_fault}
-use Rattle.clap.specs.ValueTests.{accepts}
-use Rattle.clap.specs.Walk.{nothing_held, rows_after, without}
+use Rattle.clap.specs.Kinds.{range_kinds}
+use Rattle.clap.specs.Walk.{without}
 use Rattle.clap.specs.declared.builder.value_parser.Reading.TheVariants.{AsWritten}
 use Rattle.clap.specs.declared.error.kind.ErrorKind.{ErrorKind}
 use Rattle.clap.specs.declared.parser.matches.ValueSource.TheVariants.{CommandLine}
-use Rattle.dcv_command.specs.Request.{asked_in, value_in}
-use Rattle.dcv_command.specs.Table.{Argument, Asks, Form, Operand, Required, WithDefault, Of, Value, FileName, Number}
 use Rattle.dcv_command.proofs.Arguments.{IsLookedUp, all_looked_up, are_sound, built_rule, built_rules, built_shape, default_fits, defaults_of, is_required, next_place, parser}
 use Rattle.dcv_command.proofs.Leaves.{IsFoundIfSure, all_found}
 use Rattle.dcv_command.proofs.Rows.{AreReadable, HasDefault, HasReadableDefaults, IsFound, IsReadableDefault, readable_with, readable_without, says_so, value_is_there}

@@ -1,27 +1,22 @@
 -- The walk of `clap` over a command's operands and options: what is held after each, and what is found at the end.
-use Rattle.std.proofs.Common.{◌≡◌, ◌<◌, refl, sym, ap, ap₂, ◌∙◌, subst, Bool, true, false, ℕ, List, [], ◌∷◌, ◌++◌, Option, None, Some, arith, min}
-use Rattle.std.specs.Prelude.{find, fold, not, ◌&&◌, ◌||◌, ◌+◌, if◌then◌else◌, nat_lt}
-use Rattle.std.specs.List.{AllByRecursion}
-use Rattle.std.specs.Option.{option_map_or}
-use Rattle.std.specs.Str.{bytes_eq}
+use Rattle.dcv_command.proofs.Common.{◌≡◌, ◌<◌, refl, sym, ap, ◌∙◌, subst, Bool, true, false, ℕ, List, [], ◌∷◌, ◌++◌, Option, None, Some}
+use Rattle.dcv_command.proofs.Common.{arith, find, fold, not, ◌&&◌, ◌||◌, ◌+◌, if◌then◌else◌, AllByRecursion, option_map_or, bytes_eq}
+use Rattle.dcv_command.proofs.Common.{append-nil, bytes_eq-Decides, true≢false, Row, Rule, Shape, Text, reading_of, explicit_source}
+use Rattle.dcv_command.proofs.Common.{settle_fault, step_fault, or_else, is_given, settle_passes, step_passes, accepts, Held, Step}
+use Rattle.dcv_command.proofs.Common.{after_flag, after_step, arg_by_index, has_row, idle, long_or_other, nothing_held, option, settled}
+use Rattle.dcv_command.proofs.Common.{to_positional, trailing, with_default, IsOption, has_name, Argument, value_of}
+use Rattle.std.proofs.Common.{ap₂, min}
+use Rattle.std.specs.Prelude.{nat_lt}
 use Rattle.std.proofs.Math.Nat.{min-eq_left}
-use Rattle.std.proofs.lemmas.List.{append-nil}
 use Rattle.std.proofs.lemmas.List.Folds.{list_any-append}
-use Rattle.std.proofs.lemmas.Slice.Eq.{bytes_eq-Decides}
-use mathlib.Core.Bool.{true≢false}
-use Rattle.clap.specs.Words.{Row, Rule, Shape, Text, reading_of}
-use Rattle.clap.specs.Facts.{explicit_source}
-use Rattle.clap.specs.Faults.{flag_word_fault, long_fault, positional_fault, settle_fault, step_fault, stray_fault, use_fault}
-use Rattle.clap.specs.Kinds.{or_else}
+use Rattle.clap.specs.Faults.{flag_word_fault, long_fault, positional_fault, stray_fault, use_fault}
 use Rattle.clap.specs.Lexer.{usize_max}
-use Rattle.clap.specs.Takes.{flag_word_passes, is_given, long_passes, positional_passes, settle_passes, step_passes, use_passes}
-use Rattle.clap.specs.ValueTests.{accepts}
+use Rattle.clap.specs.Takes.{flag_word_passes, long_passes, positional_passes, use_passes}
 use Rattle.clap.specs.Values.{refused_kind}
-use Rattle.clap.specs.Walk.{Held, Step, after_flag, after_step, arg_by_index, at_row, default_rows, has_row, idle, is_pending, long_met, long_or_other, more_values, nothing_held, option, option_word, pushed, reading_by, settled, to_positional, trailing, used_by_id, walked, with_default, with_values}
+use Rattle.clap.specs.Walk.{at_row, default_rows, is_pending, long_met, more_values, option_word, pushed, reading_by, used_by_id, walked, with_values}
 use Rattle.clap.specs.declared.error.kind.ErrorKind.TheVariants.{ArgumentConflict}
 use Rattle.clap.specs.declared.parser.matches.ValueSource.TheVariants.{CommandLine, DefaultValue}
-use Rattle.dcv_command.specs.Listed.{IsOption, Values, has_name}
-use Rattle.dcv_command.specs.Table.{Argument, value_of}
+use Rattle.dcv_command.specs.Listed.{Values}
 use Rattle.dcv_command.proofs.Arguments.{IsLookedUp, built_rule, built_rules, built_shape, flag, parser}
 use Rattle.dcv_command.proofs.Plain.{HasNoDash, going}
 use Rattle.dcv_command.proofs.Rows.{AreReadable, IsReadable, new_row}

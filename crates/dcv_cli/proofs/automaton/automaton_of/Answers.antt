@@ -1,5 +1,5 @@
 -- The step that the builder names is one of the core's, and the first that is over the limits.
-use Rattle.dcv_core.specs.Steps.{steps_of}
+use Rattle.dcv_cli.proofs.Common.{steps_of}
 use Rattle.dcv_cli.proofs.Budgets.{fault_over, at_some_step}
 use Rattle.dcv_cli.proofs.automaton.automaton_of.Goals as goal
 

@@ -1,7 +1,4 @@
-use Rattle.std.proofs.Common.{subst}
-use Rattle.dcv_core.specs.Steps.{steps_of}
-use Rattle.dcv_cli.specs.Budget.{IsAtSomeStep, IsFaultOver}
-use Rattle.dcv_cli.specs.declared.budget_line.Excess.TheVariants.{States, Nodes}
+use Rattle.dcv_cli.proofs.Common.{subst, steps_of, IsAtSomeStep, IsFaultOver, States, Nodes}
 use Rattle.dcv_cli.proofs.Budgets.{first_over}
 use Rattle.dcv_cli.proofs.automaton.refusal_of.Goals as goal
 

@@ -1,9 +1,6 @@
 -- The pieces are those of the line, in order.
-use Rattle.std.proofs.Common.{◌≡◌, ℕ, List, ◌++◌, rules, codes, subst, ◌∙◌}
-use Rattle.std.specs.Fmt.{decimal}
-use Rattle.std.specs.Prelude.{OnErr}
-use Rattle.dcv_io.specs.Written.{AppendsPrefix}
-use Rattle.dcv_cli.specs.Refusal.{excess_word_of, product_words}
+use Rattle.dcv_cli.proofs.Common.{◌≡◌, ℕ, List, ◌++◌, rules, codes, subst, ◌∙◌, decimal, OnErr, AppendsPrefix, excess_word_of}
+use Rattle.dcv_cli.specs.Refusal.{product_words}
 use Rattle.dcv_cli.proofs.Pieces.{five_pieces}
 use Rattle.dcv_cli.proofs.budget_line.tell_product.Goals as goal
 

@@ -1,5 +1,5 @@
 -- The automaton is that which is built with the counts.
-use Rattle.std.proofs.lemmas.Result.{err_from_is_err_and}
+use Rattle.dcv_cli.proofs.Common.{err_from_is_err_and}
 use Rattle.dcv_cli.proofs.expanded.built.Goals as goal
 
 pub returns-in_err-whole-clause-over : goal.returns-in_err-whole-clause-over

@@ -1,11 +1,6 @@
 -- What the reader and the builder of cores say is what is right for the text.
-use Rattle.std.proofs.Common.{Vec, Global, ap}
-use Rattle.std.proofs.lemmas.Result.{err_from_is_err_and}
+use Rattle.dcv_cli.proofs.Common.{Vec, Global, ap, err_from_is_err_and, Name, fault_of_goal, fault_of_names, no_bound_shift}
 use Rattle.dcv_syntax.specs.Views.{plain_file}
-use Rattle.dcv_syntax.specs.declared.names.Name.{Name}
-use Rattle.dcv_scope.specs.Faults.{fault_of_goal}
-use Rattle.dcv_scope.specs.Names.{fault_of_names}
-use Rattle.dcv_scope.proofs.Faulting.{no_bound_shift}
 use Rattle.dcv_cli.proofs.VariableNames.{none_of_both}
 use Rattle.dcv_cli.proofs.Budgets.{is_core}
 use Rattle.dcv_cli.proofs.Outcomes.{explains_reading, explains_scope}

@@ -1,12 +1,7 @@
 -- A text that is too long, or has a fault, is no formula file.
-use Rattle.std.proofs.lemmas.Result.{err_from_is_err_and, IfOk-weaker}
-use Rattle.std.proofs.Common.{List, ℕ, subst}
-use Rattle.std.specs.Prelude.{IfOk, IfErr}
-use Rattle.std.specs.Bool.{OnTrue}
+use Rattle.dcv_cli.proofs.Common.{err_from_is_err_and, IfOk-weaker, List, ℕ, subst, IfOk, IfErr, OnTrue, IsRefused, TooLong, status_of}
+use Rattle.dcv_cli.proofs.Common.{is_determined}
 use Rattle.dcv_cli.specs.Expanded.{IsExpandedText}
-use Rattle.dcv_cli.specs.FormulaFile.{IsRefused, TooLong}
-use Rattle.dcv_cli.specs.Refusal.{status_of}
-use Rattle.dcv_cli.specs.Status.{is_determined}
 use Rattle.dcv_cli.proofs.ThreeEnds.{on_true_weaker}
 use Rattle.dcv_cli.proofs.Outcomes.{refused_file}
 use Rattle.dcv_cli.proofs.expanded.expanded_file.Goals as goal

@@ -1,11 +1,6 @@
 -- The pieces are those of the words, in order.
-use Rattle.std.proofs.Common.{◌≡◌, ℕ, List, [], ◌++◌, rules, codes, ap, subst, ◌∙◌}
-use Rattle.std.proofs.lemmas.List.{append-nil}
-use Rattle.std.specs.Fmt.{decimal}
-use Rattle.std.specs.Prelude.{OnOk}
-use Rattle.dcv_io.specs.Written.{Appends}
+use Rattle.dcv_cli.proofs.Common.{◌≡◌, ℕ, List, [], ◌++◌, rules, codes, ap, subst, ◌∙◌, append-nil, decimal, OnOk, Appends, Line}
 use Rattle.dcv_cli.specs.Refusal.{trace_words}
-use Rattle.dcv_cli.specs.declared.faults.TraceFault.TheVariants.{Line}
 use Rattle.dcv_cli.proofs.faults.tell_line.Goals as goal
 
 pub returns-clause-ok : goal.returns-clause-ok

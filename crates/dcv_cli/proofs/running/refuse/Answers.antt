@@ -1,4 +1,4 @@
-use Rattle.dcv_cli.specs.Refusal.{message_of}
+use Rattle.dcv_cli.proofs.Common.{message_of}
 use Rattle.dcv_cli.proofs.Endings.{tells}
 use Rattle.dcv_cli.proofs.running.refuse.Goals as goal
 

@@ -1,9 +1,6 @@
 -- Each command of the table is one subcommand more.
-use Rattle.std.proofs.Common.{ap, ◌∙◌, fold}
-use Rattle.std.proofs.lemmas.Result.{IfOk-weaker}
-use Rattle.clap.specs.Words.{App, with_subcommand}
+use Rattle.dcv_command.proofs.Common.{ap, ◌∙◌, fold, IfOk-weaker, App, with_subcommand, shape_seen}
 use Rattle.dcv_command.specs.Program.{bare_app}
-use Rattle.dcv_command.specs.Seen.{shape_seen}
 use Rattle.dcv_command.proofs.Built.{shapes_added}
 use Rattle.dcv_command.proofs.program.program.Goals as goal
 

@@ -1,10 +1,7 @@
 -- Each argument is one rule more.
-use Rattle.std.proofs.Common.{◌≡◌, ap, ◌∙◌, fold}
-use Rattle.std.proofs.lemmas.Result.{IfOk-weaker}
-use Rattle.clap.specs.Words.{App, app_of, new_app, with_rule}
+use Rattle.dcv_command.proofs.Common.{◌≡◌, ap, ◌∙◌, fold, IfOk-weaker, App, app_of, with_rule, rule_of, argument_seen}
+use Rattle.clap.specs.Words.{new_app}
 use Rattle.clap.specs.Simple.{app_of_fields}
-use Rattle.dcv_command.specs.Program.{rule_of}
-use Rattle.dcv_command.specs.Seen.{argument_seen}
 use Rattle.dcv_command.proofs.Built.{rules_added}
 use Rattle.dcv_command.proofs.program.subcommand.Goals as goal
 

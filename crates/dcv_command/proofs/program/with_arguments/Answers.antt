@@ -1,10 +1,6 @@
-use Rattle.std.proofs.Common.{ap, ◌∙◌}
-use Rattle.std.specs.Prelude.{◌||◌}
+use Rattle.dcv_command.proofs.Common.{ap, ◌∙◌, ◌||◌, app_of, with_rule, rule_of, argument_seen}
 use Rattle.std.proofs.Math.Bool.{or-false}
-use Rattle.clap.specs.Words.{app_of, with_rule}
 use Rattle.clap.specs.declared.builder.command.Command.TheViews.{out-Command as fields_of}
-use Rattle.dcv_command.specs.Program.{rule_of}
-use Rattle.dcv_command.specs.Seen.{argument_seen}
 use Rattle.dcv_command.proofs.Built.{one_more}
 use Rattle.dcv_command.proofs.program.with_arguments.Goals as goal
 

@@ -1,8 +1,5 @@
-use Rattle.std.proofs.Common.{◌≡◌, drop, fold}
-use Rattle.clap.specs.Words.{app_of, with_rule}
+use Rattle.dcv_command.proofs.Common.{◌≡◌, drop, fold, app_of, with_rule, rule_of, argument_seen}
 use Rattle.clap.specs.declared.builder.command.Command.TheViews.{out-Command as fields_of}
-use Rattle.dcv_command.specs.Program.{rule_of}
-use Rattle.dcv_command.specs.Seen.{argument_seen}
 use Rattle.dcv_command.proofs.program.with_arguments.Given as goal
 
 -- the arguments that are left are added to those so far

@@ -1,6 +1,4 @@
-use Rattle.std.proofs.Common.{ap, ◌∙◌}
-use Rattle.clap.specs.Words.{App, app_of, with_subcommand}
-use Rattle.dcv_command.specs.Seen.{shape_seen}
+use Rattle.dcv_command.proofs.Common.{ap, ◌∙◌, App, app_of, with_subcommand, shape_seen}
 use Rattle.dcv_command.proofs.Built.{one_more}
 use Rattle.dcv_command.proofs.program.with_entries.Goals as goal
 

@@ -1,6 +1,4 @@
-use Rattle.std.proofs.Common.{◌≡◌, drop, fold}
-use Rattle.clap.specs.Words.{app_of, with_subcommand}
-use Rattle.dcv_command.specs.Seen.{shape_seen}
+use Rattle.dcv_command.proofs.Common.{◌≡◌, drop, fold, app_of, with_subcommand, shape_seen}
 use Rattle.dcv_command.proofs.program.with_entries.Given as goal
 
 -- the subcommands that are left are added to those so far

@@ -1,7 +1,7 @@
-use Rattle.std.proofs.Common.{◌≡◌, ◌≢◌, ◌∙◌, true, false, [], map}
-use Rattle.clap.specs.Words.{app_of, fault_of, kind_of, takes}
+use Rattle.dcv_command.proofs.Common.{◌≡◌, ◌∙◌, true, false, [], map, app_of, fault_of, takes, program}
+use Rattle.std.proofs.Common.{◌≢◌}
+use Rattle.clap.specs.Words.{kind_of}
 use Rattle.clap.specs.declared.error.kind.ErrorKind.TheVariants.{OutOfMemory}
-use Rattle.dcv_command.specs.Program.{program}
 use Rattle.dcv_command.proofs.Faults.{only_where, refused, not_taken, no_fault, found}
 use Rattle.dcv_command.proofs.words.matches_of.Goals as goal
 

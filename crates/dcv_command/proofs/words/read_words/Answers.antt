@@ -1,6 +1,5 @@
 -- Where `clap` finds no fault, the words ask for something.
-use Rattle.std.proofs.Common.{sym, map}
-use Rattle.clap.specs.Words.{subcommand_rows_of}
+use Rattle.dcv_command.proofs.Common.{sym, map, subcommand_rows_of}
 use Rattle.dcv_command.specs.Seen.{asked_by}
 use Rattle.dcv_command.proofs.Ranges.{request_is_in_range}
 use Rattle.dcv_command.proofs.TakenWords.{matches_ask}

@@ -1,5 +1,4 @@
-use Rattle.std.proofs.Common.{◌∙◌}
-use Rattle.clap.specs.Words.{found_of}
+use Rattle.dcv_command.proofs.Common.{◌∙◌, found_of}
 use Rattle.dcv_command.proofs.Requests.{asks_of_whole}
 use Rattle.dcv_command.proofs.words.request_in.Goals as goal
 

@@ -1,10 +1,7 @@
 -- The pieces are those of the line, in order.
-use Rattle.std.proofs.Common.{◌≡◌, ℕ, List, [], ◌++◌, rules, codes, subst, ◌∙◌}
-use Rattle.std.specs.Fmt.{decimal}
-use Rattle.std.specs.Prelude.{OnErr}
-use Rattle.dcv_io.specs.Written.{AppendsPrefix}
-use Rattle.std.proofs.lemmas.List.{append-nil}
-use Rattle.dcv_cli.specs.Refusal.{excess_word_of, over_words}
+use Rattle.dcv_cli.proofs.Common.{◌≡◌, ℕ, List, [], ◌++◌, rules, codes, subst, ◌∙◌, decimal, OnErr, AppendsPrefix, append-nil}
+use Rattle.dcv_cli.proofs.Common.{excess_word_of}
+use Rattle.dcv_cli.specs.Refusal.{over_words}
 use Rattle.dcv_cli.proofs.Pieces.{in_any_order}
 use Rattle.dcv_cli.proofs.budget_line.Over.tell.Goals as goal
 

@@ -1,6 +1,6 @@
 -- The words, and then the end of the line.
+use Rattle.dcv_cli.proofs.Common.{err_from_is_err_and}
 use Rattle.dcv_cli.proofs.Pieces.{line_told, line_begun, words_begun}
-use Rattle.std.proofs.lemmas.Result.{err_from_is_err_and}
 use Rattle.dcv_cli.proofs.refused.Refused.tell.Goals as goal
 
 pub returns-clause-ok : goal.returns-clause-ok

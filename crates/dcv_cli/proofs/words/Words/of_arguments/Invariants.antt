@@ -1,5 +1,4 @@
-use Rattle.std.proofs.Common.{◌≡◌, ◌++◌, map, drop}
-use Rattle.std.specs.String.{string_bytes}
+use Rattle.dcv_cli.proofs.Common.{◌≡◌, ◌++◌, map, drop, string_bytes}
 use Rattle.dcv_cli.proofs.words.Words.of_arguments.Given as goal
 
 -- with the words that are left these are all

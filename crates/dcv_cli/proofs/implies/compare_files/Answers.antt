@@ -1,0 +1,29 @@
+-- What is right for the second file, after the first, is right for both.
+use Rattle.dcv_cli.proofs.Common.{[], ◌∷◌, IsCompared, OnText, OnHeld, First, Second}
+use Rattle.dcv_cli.proofs.Comparisons.{fulfils_both, leaves_both, leaves_first}
+use Rattle.dcv_cli.proofs.Outcomes.{explains_file}
+use Rattle.dcv_cli.proofs.ThreeEnds.{performs_untaken}
+use Rattle.dcv_cli.proofs.TwoFiles.{performs_later}
+use Rattle.dcv_cli.proofs.implies.compare_files.Goals as goal
+
+pub returns-in-Ok : goal.returns-in-Ok
+returns-in-Ok g c =
+    let given = c.in-Ok.ensures.expanded in
+    let taken = c.in-Ok.ensures.taken in
+    let known = given.is in
+    performs_later taken _ _
+    (λ outcome right. fulfils_both _ _ c.args.first.now c.args.second.now given.text c.args.limits known.file outcome taken.held given.there known.formula _
+    (λ other outcome each. each known.file known.is) right)
+    c.over_formula.result (c.args.second.now ∷ []) _
+    (λ bytes left. leaves_both c.args.first.now c.args.second.now given.text c.args.limits known.file _ _ _ bytes taken.asked given.there known.formula left)
+    c.over_formula.ensures
+
+pub returns-in-Err : goal.returns-in-Err
+returns-in-Err g c =
+    let taken = c.in-Err.ensures.taken in
+    rw c.in_file.ensures (performs_untaken _ _ (c.args.second.now ∷ []) c.in-Err.refusal taken _ _ First
+    (explains_file _ _ First (λ held one. OnHeld (held 1) c.args.second.now (λ text. OnText text Second (IsCompared c.args.limits one))) c.in-Err.refusal c.in-Err.ensures.refused)
+    (leaves_first c.args.first.now c.args.second.now c.args.limits _ _ taken.asked))
+
+pub over_formula-requires : goal.over_formula-requires
+over_formula-requires g c = let known = c.in-Ok.ensures.expanded.is in record { file = known.file; is = known.is }

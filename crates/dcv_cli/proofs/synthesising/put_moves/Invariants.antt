@@ -1,9 +1,0 @@
-use Rattle.std.proofs.Common.{take}
-use Rattle.std.specs.List.{flat_map}
-use Rattle.dcv_io.specs.Putting.{Puts}
-use Rattle.dcv_cli.specs.Synthesis.{move_line}
-use Rattle.dcv_cli.proofs.synthesising.put_moves.Given as goal
-
--- the lines of the moves so far are put
-abbrev pub invariant-loop-one : goal.invariant-loop-one
-invariant-loop-one g l = Puts (g.T.Target.standing l.fn.target) (g.T.Target.standing l.target) (flat_map move_line (take l.one-index l.moves))
