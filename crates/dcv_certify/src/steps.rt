@@ -1,12 +1,15 @@
 //! Where letters lead from all states. What was found for a letter is kept, since most texts have few letters.
-ghost use Rattle.std.specs.Prelude.{◌≡◌, ◌<◌, length, None, slice_index_or, IfOk, OnOk, IsTrue};
+ghost use Rattle.std.specs.Prelude.{◌≡◌, ◌<◌, ◌≤◌, length, None, slice_index_or, IfOk, OnOk, IsTrue};
 ghost use Rattle.dcv_language.specs.Table.{Table};
-ghost use Rattle.dcv_automaton_text.specs.Meaning.{table_of};
+ghost use Rattle.dcv_automaton_text.specs.Meaning.{table_of, state_at};
+ghost use Rattle.dcv_automaton_read.specs.Walk.{child_at, leaves_of, IsEarlier, AreOrdered};
 ghost use Rattle.dcv_certify.specs.Steps.{LeadTo, next_of, AreKept};
 
-use dcv_automaton_read::AutoFile;
+use dcv_automaton_read::{AutoFile, Node};
 use dcv_automaton_text::laws::good_files_are_tables;
+use dcv_language::Child;
 use dcv_word::Letter;
+use dcv_word::laws::letters_of_width_are_all;
 use std::alloc::{AllocError, Global};
 
 // How many letters are kept at most. Where these lead takes 262 MB where there are as many states as there may be.
@@ -91,12 +94,54 @@ fn next_states(alloc: Global, file: &AutoFile, letter: Letter) -> Result<Vec<u32
     requires { length letter ≡ length file.now.names }
     ensures { IfOk result (λ next. LeadTo (table_of file.now) letter next.items) }
 {
+    letters_of_width_are_all();
     good_files_are_tables();
     // for the prover: what is true of every file.
     file.keeps_the_rules();
+    let leaves = leaves(alloc, file.nodes(), letter)?;
     let mut next = Vec::new(alloc);
-    for state in 0..file.states() {
-        next.push(file.next(state, &letter))?;
+    for row in file.rows() {
+        let state = state_of(&leaves, row.next);
+        next.push(state)?;
     }
     Ok(next)
+}
+
+// For each node the state to which a letter leads. One pass over all nodes takes less than a way through each row.
+fn leaves(alloc: Global, nodes: &[Node], letter: Letter) -> Result<Vec<u32>, AllocError>
+    requires narrow { length letter ≤ 32 }
+    requires ordered { AreOrdered (length letter) nodes.now }
+    ensures count { IfOk result (λ leaves. length leaves.items ≡ length nodes.now) }
+    ensures leaves { IfOk result (λ leaves. leaves.items ≡ leaves_of letter nodes.now) }
+{
+    let mut leaves = Vec::new(alloc);
+    for node in nodes {
+        let state = state_of(&leaves, child_of(node, letter));
+        leaves.push(state)?;
+    }
+    Ok(leaves)
+}
+
+// What comes next at a letter.
+fn child_of(node: &Node, letter: Letter) -> Child
+    requires narrow { length letter ≤ 32 }
+    requires slot { node.now.slot < length letter }
+    ensures { result ≡ child_at letter node.now }
+{
+    if letter.get(node.slot as u8) {
+        node.hi
+    } else {
+        node.lo
+    }
+}
+
+// The state of a child, given those of the nodes.
+fn state_of(leaves: &[u32], child: Child) -> u32
+    requires { IsEarlier (length leaves.now) child }
+    ensures { result ≡ state_at leaves.now child }
+{
+    match child {
+        Child::State(state) => state,
+        Child::Node(number) => leaves[number as usize],
+    }
 }

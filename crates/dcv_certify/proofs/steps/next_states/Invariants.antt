@@ -1,6 +1,7 @@
-use Rattle.dcv_automaton_text.specs.Meaning.{table_of}
-use Rattle.dcv_certify.proofs.Stepping.{LeadSoFar}
+use Rattle.std.proofs.Common.{◌≡◌, map, take}
+use Rattle.dcv_automaton_text.specs.Meaning.{state_at}
+use Rattle.dcv_automaton_read.specs.declared.file.Row.{Row}
 use Rattle.dcv_certify.proofs.steps.next_states.Given as goal
 
-abbrev pub invariant-loop-state : goal.invariant-loop-state
-invariant-loop-state l = LeadSoFar (table_of l.file) l.letter l.next.items l.state
+abbrev pub invariant-loop-row : goal.invariant-loop-row
+invariant-loop-row l = l.next.items ≡ map (λ (row : Row). state_at l.leaves.items row.next) (take l.row-index l.row-items)
