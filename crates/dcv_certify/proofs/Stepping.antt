@@ -4,7 +4,7 @@ use Rattle.std.proofs.lemmas.Grind.{take_at_read, fold-append}
 use Rattle.std.proofs.lemmas.List.{get_or_default, get_or-map, length-map}
 use Rattle.std.specs.List.{All, enumerate_from}
 use Rattle.dcv_word.specs.Laws.{LetterStandsAtItsBits}
-use Rattle.dcv_language.specs.Table.{Table, IsTable}
+use Rattle.dcv_language.specs.Table.{Table, IsTable, next_in}
 use Rattle.dcv_automaton_text.specs.Meaning.{state_at, table_of}
 use Rattle.dcv_automaton_text.specs.File.{AutomatonFile}
 use Rattle.dcv_automaton_read.specs.File.{IsRead, state_line}
@@ -16,6 +16,10 @@ use Rattle.dcv_certify.proofs.BuiltSets.{some_row, count_of_rows}
 use Rattle.dcv_language.proofs.Bounds.{next-below}
 use Rattle.dcv_certify.specs.Steps.{LeadTo, IsStep, AreKept}
 use Rattle.dcv_certify.specs.declared.steps.Step.{Step}
+
+pub record LeadSoFar (table : Table) (letter : List Bool) (next : List ℕ) (count : ℕ) : Type 0 where
+  pub count_is : length next ≡ count
+  pub each : (state : ℕ) → state < count → get_or next state 0 ≡ next_in table state letter
 
 pub states_below : (width : ℕ) (table : Table) (letter : List Bool) (next : List ℕ) (count : ℕ) → IsTable width table
     → LeadTo table letter next → length table < count → All (λ state. state < count) next

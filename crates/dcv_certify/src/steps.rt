@@ -15,6 +15,9 @@ use std::alloc::{AllocError, Global};
 // How many letters are kept at most. Where these lead takes 262 MB where there are as many states as there may be.
 const MOST_KEPT: usize = 2048;
 
+// With more nodes than this for each state, a way through each row takes less time than one pass over all nodes.
+const NODES_FOR_A_STATE: usize = 64;
+
 // A letter, and for each state the next one.
 #[derive(Drop)]
 pub(crate) struct Step {
@@ -94,10 +97,34 @@ fn next_states(alloc: Global, file: &AutoFile, letter: Letter) -> Result<Vec<u32
     requires { length letter ≡ length file.now.names }
     ensures { IfOk result (λ next. LeadTo (table_of file.now) letter next.items) }
 {
-    letters_of_width_are_all();
+    if file.nodes().len() / NODES_FOR_A_STATE > file.states() as usize {
+        next_by_rows(alloc, file, letter)
+    } else {
+        next_by_nodes(alloc, file, letter)
+    }
+}
+
+// A way through each row.
+fn next_by_rows(alloc: Global, file: &AutoFile, letter: Letter) -> Result<Vec<u32>, AllocError>
+    requires { length letter ≡ length file.now.names }
+    ensures { IfOk result (λ next. LeadTo (table_of file.now) letter next.items) }
+{
     good_files_are_tables();
     // for the prover: what is true of every file.
     file.keeps_the_rules();
+    let mut next = Vec::new(alloc);
+    for state in 0..file.states() {
+        next.push(file.next(state, &letter))?;
+    }
+    Ok(next)
+}
+
+// One pass over all nodes.
+fn next_by_nodes(alloc: Global, file: &AutoFile, letter: Letter) -> Result<Vec<u32>, AllocError>
+    requires { length letter ≡ length file.now.names }
+    ensures { IfOk result (λ next. LeadTo (table_of file.now) letter next.items) }
+{
+    letters_of_width_are_all();
     let leaves = leaves(alloc, file.nodes(), letter)?;
     let mut next = Vec::new(alloc);
     for row in file.rows() {
@@ -107,7 +134,7 @@ fn next_states(alloc: Global, file: &AutoFile, letter: Letter) -> Result<Vec<u32
     Ok(next)
 }
 
-// For each node the state to which a letter leads. One pass over all nodes takes less than a way through each row.
+// For each node the state to which a letter leads.
 fn leaves(alloc: Global, nodes: &[Node], letter: Letter) -> Result<Vec<u32>, AllocError>
     requires narrow { length letter ≤ 32 }
     requires ordered { AreOrdered (length letter) nodes.now }

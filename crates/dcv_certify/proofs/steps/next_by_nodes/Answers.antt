@@ -7,7 +7,7 @@ use Rattle.dcv_automaton_read.proofs.Walks.{ordered, row_within}
 use Rattle.dcv_certify.specs.Steps.{LeadTo}
 use Rattle.dcv_certify.proofs.BuiltSets.{some_row}
 use Rattle.dcv_certify.proofs.Stepping.{all_lead}
-use Rattle.dcv_certify.proofs.steps.next_states.Goals as goal
+use Rattle.dcv_certify.proofs.steps.next_by_nodes.Goals as goal
 
 pub leaves-requires-clause-ordered : goal.leaves-requires-clause-ordered
 leaves-requires-clause-ordered c =
