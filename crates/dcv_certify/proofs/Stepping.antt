@@ -1,17 +1,19 @@
 -- Where letters lead from all states.
-use Rattle.std.proofs.Common.{◌≡◌, ℕ, zero, suc, ◌<◌, ◌+◌, Bool, List, [], ◌∷◌, ◌++◌, length, map, take, fold, get_or, Option, None, refl, ap, sym, ◌∙◌, subst, arith}
-use Rattle.std.proofs.lemmas.Grind.{take_at_read, fold-append}
-use Rattle.std.proofs.lemmas.List.{get_or_default, get_or-map, length-map}
+use Rattle.std.proofs.Common.{◌≡◌, ℕ, zero, suc, ◌<◌, ◌+◌, Bool, List, [], ◌∷◌, ◌++◌, length, map, take, fold, set, get_or, Option, None, refl, ap, sym, ◌∙◌, subst, arith}
+use Rattle.std.proofs.lemmas.Grind.{take_at_read, take-set_at, fold-append}
+use Rattle.std.proofs.lemmas.List.{get_or_default, get_or-map, get_or-take, length-map}
 use Rattle.std.specs.List.{All, enumerate_from}
 use Rattle.dcv_word.specs.Laws.{LetterStandsAtItsBits}
 use Rattle.dcv_language.specs.Table.{Table, IsTable, next_in}
+use Rattle.dcv_language.specs.declared.child.Child.{Child}
+use Rattle.dcv_language.specs.declared.child.Child.TheVariants.{State, Node as AtNode}
 use Rattle.dcv_automaton_text.specs.Meaning.{state_at, table_of}
 use Rattle.dcv_automaton_text.specs.File.{AutomatonFile}
 use Rattle.dcv_automaton_read.specs.File.{IsRead, state_line}
-use Rattle.dcv_automaton_read.specs.Walk.{child_at, leaves_of}
+use Rattle.dcv_automaton_read.specs.Walk.{child_at, leaves_of, IsEarlier, AreOrdered}
 use Rattle.dcv_automaton_read.specs.declared.nodes.Node.{Node}
 use Rattle.dcv_automaton_read.specs.declared.file.Row.{Row}
-use Rattle.dcv_automaton_read.proofs.Walks.{leads}
+use Rattle.dcv_automaton_read.proofs.Walks.{leads, earlier_child}
 use Rattle.dcv_certify.proofs.BuiltSets.{some_row, count_of_rows}
 use Rattle.dcv_language.proofs.Bounds.{next-below}
 use Rattle.dcv_certify.specs.Steps.{LeadTo, IsStep, AreKept}
@@ -43,12 +45,22 @@ none_kept kept table some none = record { some = some; each = λ place. subst (I
 
 -- ---- the states of nodes, one after another
 
-pub leaves_more : (letter : List Bool) (nodes : List Node) (place : ℕ) (d : Node) → place < length nodes
-    → leaves_of letter (take (place + 1) nodes) ≡ leaves_of letter (take place nodes) ++ state_at (leaves_of letter (take place nodes)) (child_at letter (get_or nodes place d)) ∷ []
+leaf_before : (leaves : List ℕ) (place : ℕ) (child : Child) → IsEarlier place child → state_at leaves child ≡ state_at (take place leaves) child
+leaf_before leaves place (State number) earlier = refl
+leaf_before leaves place (AtNode number) earlier = sym (get_or-take place leaves number 0 earlier)
+
+-- one that is written in place
+pub leaves_more : (width : ℕ) (letter : List Bool) (nodes : List Node) (leaves : List ℕ) (place : ℕ) (d : Node) → AreOrdered width nodes → place < length nodes
+    → length leaves ≡ length nodes → take place leaves ≡ leaves_of letter (take place nodes)
+    → take (place + 1) (set leaves place (state_at leaves (child_at letter (get_or nodes place d)))) ≡ leaves_of letter (take (place + 1) nodes)
 unfolding leaves_of
-leaves_more letter nodes place d within =
+leaves_more width letter nodes leaves place d ordered within same so_far =
     let leaf = λ (leaves : List ℕ) (node : Node). leaves ++ state_at leaves (child_at letter node) ∷ [] in
-    ap (fold leaf []) (take_at_read nodes place d within).1 ∙ fold-append leaf [] (take place nodes) (get_or nodes place d ∷ [])
+    let child = child_at letter (get_or nodes place d) in
+    take-set_at leaves place (place + 1) (state_at leaves child) refl (omega (arith, within, same))
+    ∙ ap (λ state. take place leaves ++ state ∷ []) (leaf_before leaves place child (earlier_child letter width place nodes d ordered within))
+    ∙ ap (λ (leaves : List ℕ). leaves ++ state_at leaves child ∷ []) so_far
+    ∙ sym (ap (fold leaf []) (take_at_read nodes place d within).1 ∙ fold-append leaf [] (take place nodes) (get_or nodes place d ∷ []))
 
 -- ---- what comes next in each row
 

@@ -126,10 +126,10 @@ fn next_by_nodes(alloc: Global, file: &AutoFile, letter: Letter) -> Result<Vec<u
 {
     letters_of_width_are_all();
     let leaves = leaves(alloc, file.nodes(), letter)?;
-    let mut next = Vec::new(alloc);
-    for row in file.rows() {
-        let state = state_of(&leaves, row.next);
-        next.push(state)?;
+    let rows = file.rows();
+    let mut next = vec![in alloc; 0; rows.len()]?;
+    for (state, row) in rows.iter().enumerate() {
+        next[state] = state_of(&leaves, row.next);
     }
     Ok(next)
 }
@@ -141,10 +141,9 @@ fn leaves(alloc: Global, nodes: &[Node], letter: Letter) -> Result<Vec<u32>, All
     ensures count { IfOk result (λ leaves. length leaves.items ≡ length nodes.now) }
     ensures leaves { IfOk result (λ leaves. leaves.items ≡ leaves_of letter nodes.now) }
 {
-    let mut leaves = Vec::new(alloc);
-    for node in nodes {
-        let state = state_of(&leaves, child_of(node, letter));
-        leaves.push(state)?;
+    let mut leaves = vec![in alloc; 0; nodes.len()]?;
+    for (place, node) in nodes.iter().enumerate() {
+        leaves[place] = state_of(&leaves, child_of(node, letter));
     }
     Ok(leaves)
 }
