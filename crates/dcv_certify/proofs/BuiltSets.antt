@@ -28,7 +28,7 @@ use Rattle.dcv_certify.specs.Built.{ref_at, StandFor}
 use Rattle.dcv_certify.specs.Certified.{set_of}
 use Rattle.dcv_certify.proofs.Building.{child_is_ref, child_value}
 
-abbrev some_row : Row
+abbrev pub some_row : Row
 some_row = record { accepting = false; next = State 0 }
 
 pub count_of_rows : (file : AutomatonFile) (rows : List Row) → file.state_lines ≡ map state_line (enumerate_from 0 rows) → length (table_of file) ≡ length rows

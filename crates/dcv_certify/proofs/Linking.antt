@@ -95,28 +95,6 @@ module _ (file : AutomatonFile) (good : IsGood file) (heaviest : List (Option �
       no place = ap (λ links. link_at links place) none ∙ no_link (length file.suffix_lines) place
 
   module _ (count : ℕ) (first next : List (Option ℕ)) (so_far : LinkedSoFar file heaviest (count + 1) first next) where
-    -- one that is there already, or goes on from none
-    pub links_stay : ((from : ℕ) → parent_at file count ≡ Some from → link_at heaviest from ≡ Some count) → LinkedSoFar file heaviest count first next
-    links_stay there = record {
-      size = so_far.size;
-      next_size = so_far.next_size;
-      goes_on = so_far.goes_on;
-      late = λ place child link. ⊎_elim (λ past. inl (omega arith)) (λ heavy. inr heavy) (so_far.late place child link);
-      goes_on_too = so_far.goes_on_too;
-      in_order = so_far.in_order;
-      none_yet = λ place before. so_far.none_yet place (omega arith);
-      last = so_far.last;
-      met = λ place from has how. so_far.met place from has (by place from has how (cases_order count place));
-    }
-      where
-        by : (place from : ℕ) → parent_at file place ≡ Some from → (count ≤ place) ⊎ (link_at heaviest from ≡ Some place) → (count ≡ place) ⊎ ((count < place) ⊎ (place < count))
-            → (count + 1 ≤ place) ⊎ (link_at heaviest from ≡ Some place)
-        by place from has how (inl is) =
-            inr (subst (λ n. link_at heaviest from ≡ Some n) is (there from (subst (λ n. parent_at file n ≡ Some from) (sym is) has)))
-        by place from has how (inr (inl less)) = inl (omega arith)
-        by place from has (inl past) (inr (inr more)) = absurd (omega (arith, past, more))
-        by place from has (inr heavy) (inr (inr more)) = inr heavy
-
     -- one that now comes first of those that go on from the same one
     module _ (from : ℕ) (has : parent_at file count ≡ Some from) (light : link_at heaviest from ≢ Some count) where
       abbrev more_first : List (Option ℕ)
@@ -221,25 +199,6 @@ module _ (file : AutomatonFile) (good : IsGood file) (heaviest : List (Option �
   met_on first next start one place (Beside _ other _ more is) below = Beside start other place (met_on first next (link_at next other) one place more below) is
   met_on first next start one place (Under _ other _ more is) below = Under start other place (met_on first next (link_at first other) one place more below) is
 
-  -- what of the parent of a suffix is tested
-  pub heaviest_more : (place from : ℕ) → parent_at file place ≡ Some from → AreHeaviest file (set heaviest from (Some place))
-  heaviest_more place from has = record {
-    count = length-set heaviest from (Some place) ∙ are.count;
-    goes_on = λ other heavy link.
-        elim (same_or_not other from) [
-          | inl same ↦
-              let fits = parent_is_earlier file good place from has in
-              let now : link_at (set heaviest from (Some place)) from ≡ Some place = get_or-set_same heaviest from (Some place) nothing (omega (arith, fits.0, fits.1, are.count)) in
-              let it : place ≡ heavy = some_is_one place heavy (sym now ∙ ap (link_at (set heaviest from (Some place))) (sym same) ∙ link) in
-              subst (λ n. parent_at file n ≡ Some other) it (has ∙ ap (λ n. Some n) (sym same))
-          | inr differ ↦ are.goes_on other heavy (sym (get_or-set_other heaviest from other (Some place) nothing differ) ∙ link)
-        ];
-  }
-
-  leads_is : (link : Option ℕ) (place : ℕ) → leads_to link place ≡ true → link ≡ Some place
-  leads_is None place is = absurd (let wrong : false ≡ true = is in cc)
-  leads_is (Some other) place is = ap (λ n. Some n) ((unsigned_Decides other place).0 is)
-
   leads_there : (link : Option ℕ) (place : ℕ) → link ≡ Some place → leads_to link place ≡ true
   leads_there link place is = ap (λ link. leads_to link place) is ∙ (unsigned_Decides place place).1 refl
 
@@ -257,13 +216,6 @@ module _ (file : AutomatonFile) (good : IsGood file) (heaviest : List (Option �
                 has ∙ is,
                 λ leads. let wrong : true ≡ false = sym (leads_there (link_at heaviest start) place (ap (link_at heaviest) same ∙ leads)) ∙ tested in cc,
               )
-
-  pub not_light : (place : ℕ) → light_parent_at file heaviest place ≡ None → (from : ℕ) → parent_at file place ≡ Some from → link_at heaviest from ≡ Some place
-  not_light place is from has = of (leads_to (link_at heaviest from) place) refl (sym (ap (light_parent heaviest place) has) ∙ is)
-    where
-      of : (test : Bool) → leads_to (link_at heaviest from) place ≡ test → (if test then None else Some from) ≡ None → link_at heaviest from ≡ Some place
-      of true tested is = leads_is (link_at heaviest from) place tested
-      of false tested is = absurd (none_is_none from (sym is))
 
   pub all_linked : (first next : List (Option ℕ)) → LinkedSoFar file heaviest 0 first next → AreLinks file first next
   all_linked first next so_far = record {
