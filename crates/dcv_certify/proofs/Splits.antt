@@ -43,10 +43,6 @@ module _ (old : List ℕ) (column : List Bool) (own : AreOwn old) where
     none_before = λ other before is same. leaves (sym same ∙ none other before is);
   }
 
-  -- no class has entries with other bits
-  pub stays_whole : ((entry : ℕ) → entry < length old → bit_at column entry ≡ bit_at column (number_at old entry)) → IsSplit old column old
-  stays_whole same = record { count = refl; each = λ entry within. stays entry within (same entry within) }
-
   -- one entry more
   later : (place class first : ℕ) → IsFirstMoved old column place class first → IsFirstMoved old column (place + 1) class first
   later place class first moved = record { before = omega (arith, moved.before); of_class = moved.of_class; leaves = moved.leaves; none_before = moved.none_before }
