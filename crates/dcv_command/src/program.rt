@@ -65,17 +65,25 @@ pub(crate) const MOST_COUNT: u32 = 1_000;
 
 /// A command: its name, what its help says of it, and its arguments in order.
 pub(crate) struct Entry<'a> {
+    // the word that asks for it
     name: &'a str,
+    // what `--help` says of it
     about: &'a str,
+    // its arguments, in order
     arguments: &'a [Argument<'a>],
 }
 
 /// An argument, whose name an option bears, and what help says of it.
 pub(crate) struct Argument<'a> {
+    // what it is called by in the table
     id: &'a str,
+    // whether it has a place or a name
     form: Form<'a>,
+    // which values it takes
     value: Value,
+    // what usage calls its value
     value_name: &'a str,
+    // what `--help` says of it
     help: &'a str,
 }
 
