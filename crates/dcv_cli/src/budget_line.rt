@@ -33,9 +33,13 @@ impl Excess {
 /// begins, and its number, from 0, in the order in which steps are built.
 #[derive(Clone, Copy, Debug, PartialEq, Eq)]
 pub struct Over {
+    /// Which limits it exceeds.
     pub excess: Excess,
+    /// The limit that is named.
     pub limit: u32,
+    /// Where the step's operator stands in the text.
     pub at: u32,
+    /// The number of the step.
     pub step: u32,
 }
 

@@ -34,7 +34,9 @@ impl AutomatonCommand for Certifier {
 /// What is said of an automaton with so many states.
 #[derive(Clone, Copy, Debug, PartialEq, Eq)]
 pub(crate) struct Certified {
+    // how many states the automaton has
     states: u32,
+    // what was found of its words
     answer: Answer,
 }
 

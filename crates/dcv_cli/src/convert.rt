@@ -20,14 +20,18 @@ const VERSION_BYTES: usize = 11;
 /// A text in pieces: what says its version, what follows up to the step part or the last line, and these.
 #[derive(Clone, Copy)]
 pub(crate) struct Conversion<'a> {
+    // the line of the version
     head: &'a [u8],
+    // what follows, up to the step part or the last line
     said: &'a [u8],
+    // the step part or the last line
     end: &'a [u8],
 }
 
 /// Writes an automaton's text in a version.
 #[derive(Clone, Copy)]
 pub(crate) struct Converter {
+    /// The version that is asked for.
     pub to: Version,
 }
 

@@ -31,7 +31,9 @@ use std::alloc::Global;
 /// The core of a formula file, and the names of its variables.
 #[derive(Drop)]
 pub struct Expanded {
+    /// The goal without macros and names.
     pub core: Core,
+    /// The declared variables, in order.
     pub names: Vec<Name>,
 }
 

@@ -34,13 +34,16 @@ use std::alloc::Global;
 /// The least behaviour that models the first of two files and not the second, if there is one.
 #[derive(Drop)]
 pub(crate) struct Compared {
+    // the least behaviour outside, if there is one
     least: Option<Word>,
 }
 
 /// Says whether the requirement of a file implies that of another.
 #[derive(Clone, Copy)]
 pub(crate) struct Comparer<'a> {
+    // the first of the two
     one: &'a Expanded,
+    // how large a step may be
     limits: Limits,
 }
 

@@ -39,7 +39,9 @@ impl Which {
 /// Why a run gives no report, and of which file.
 #[derive(Clone, Copy, Debug, PartialEq, Eq)]
 pub struct Refused {
+    /// What is wrong.
     pub refusal: Refusal,
+    /// In which of the files.
     pub which: Which,
 }
 

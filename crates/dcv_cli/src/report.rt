@@ -43,8 +43,11 @@ use std::alloc::{AllocError, Global};
 /// The canonical automaton of the behaviours that model the file, the names of its variables, and what each step of its goal took.
 #[derive(Drop)]
 pub struct Judged {
+    /// The minimal automaton of the goal.
     pub auto: Auto,
+    /// The declared variables, in order.
     pub names: Vec<Name>,
+    /// What each step took.
     pub counts: Vec<Count>,
 }
 
@@ -71,7 +74,9 @@ pub(crate) fn report_on<'a>(
 /// Writes a report of this kind.
 #[derive(Clone, Copy)]
 pub(crate) struct Reporter {
+    /// What is reported.
     pub kind: Kind,
+    /// How large a step may be.
     pub limits: Limits,
 }
 

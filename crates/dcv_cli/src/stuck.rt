@@ -25,12 +25,14 @@ use std::alloc::Global;
 /// The least word that keeps to a requirement and cannot go on, if there is one.
 #[derive(Drop)]
 pub(crate) struct LeastStuck {
+    // the least stuck word, if there is one
     least: Option<Word>,
 }
 
 /// Says whether what has kept to the requirement so far can always go on.
 #[derive(Clone, Copy)]
 pub(crate) struct StuckFinder {
+    /// How large a step may be.
     pub limits: Limits,
 }
 

@@ -48,7 +48,9 @@ pub(crate) enum Synthesis {
 /// Finds a controller for a requirement of which so many variables are inputs, or how these beat every controller.
 #[derive(Clone, Copy)]
 pub(crate) struct Synthesiser {
+    /// How many of the variables are inputs.
     pub inputs: u32,
+    /// How large a step may be.
     pub limits: Limits,
 }
 

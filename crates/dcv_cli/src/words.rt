@@ -8,7 +8,9 @@ use std::marker::Model;
 /// The words that stand after the program's name, in order.
 #[derive(Drop)]
 pub struct Words {
+    // where requests are allocated
     alloc: Global,
+    // the words after the program's name
     words: Vec<String>,
 }
 
