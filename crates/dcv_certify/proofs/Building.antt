@@ -68,10 +68,6 @@ module _ (width : ℕ) (nodes : List Node) where
     child_is_ref (State number) earlier = tt
     child_is_ref (AtNode number) earlier = are.refs_are number earlier
 
-    pub child_level : (slot : ℕ) (child : Child) → slot < width → IsLater nodes slot child → IsEarlier count child → slot < level_of arena (ref_at refs child)
-    child_level slot (State number) within later earlier = omega (arith, within, are.slots)
-    child_level slot (AtNode number) within later earlier = omega (arith, later, are.levels number earlier)
-
     pub child_value : (child : Child) (letter : List Bool) → IsEarlier count child → value_of arena (ref_at refs child) letter ≡ state_at (leaves_of letter nodes) child
     child_value (State number) letter earlier = refl
     child_value (AtNode number) letter earlier = are.values number letter earlier

@@ -1,53 +1,8 @@
 -- Classes of entries, split by a column of bits.
-use Rattle.std.proofs.Common.{◌≡◌, ◌≢◌, ◌⊎◌, inl, inr, ℕ, ◌+◌, ◌<◌, ◌≤◌, Bool, true, false, List, [], ◌∷◌, ◌++◌, length, get_or, replicate, Option, None, Some, refl, ap, sym, ◌∙◌, subst, arith}
+use Rattle.std.proofs.Common.{◌≡◌, ◌⊎◌, inl, inr, ℕ, ◌+◌, ◌<◌, ◌≤◌, Bool, List, [], ◌∷◌, ◌++◌, length, get_or, replicate, Option, None, Some, refl, ap, sym, ◌∙◌, subst, arith}
 use Rattle.std.proofs.lemmas.Bool.{cases_lt}
 use Rattle.std.proofs.lemmas.List.{length-append, length-replicate, get_or_push, get_or_append_left, get_or_past, get_or-replicate}
-use Rattle.dcv_certify.specs.Split.{number_at, bit_at, AreOwn, IsLeastWith, IsSplit, IsFirstMoved, IsMoved, HasMoved}
-
--- of three truths two are the same
-same_of_others : (a b c : Bool) → a ≢ c → b ≢ c → a ≡ b
-same_of_others true true c f g = refl
-same_of_others true false true f g = absurd (f refl)
-same_of_others true false false f g = absurd (g refl)
-same_of_others false true true f g = absurd (g refl)
-same_of_others false true false f g = absurd (f refl)
-same_of_others false false c f g = refl
-
-module _ (old : List ℕ) (column : List Bool) (own : AreOwn old) where
-  -- the class's own entry, where it has the same bit
-  pub stays : (entry : ℕ) → entry < length old → bit_at column entry ≡ bit_at column (number_at old entry) → IsLeastWith old column entry (number_at old entry)
-  stays entry within same = record {
-    no_later = own.no_later entry within;
-    same_class = own.own entry within;
-    same_bit = sym same;
-    none_before = λ other before is. absurd (let back = own.no_later other (omega (arith, before, within, own.no_later entry within)) in omega (arith, back, is, before));
-  }
-
-  -- the first that left the class, where the entry leaves it too
-  pub follows : (entry first : ℕ) → entry < length old → bit_at column entry ≢ bit_at column (number_at old entry)
-      → IsFirstMoved old column entry (number_at old entry) first → IsLeastWith old column entry first
-  follows entry first within leaves moved = record {
-    no_later = omega (arith, moved.before);
-    same_class = moved.of_class;
-    same_bit = same_of_others (bit_at column first) (bit_at column entry) (bit_at column (number_at old entry)) moved.leaves leaves;
-    none_before = λ other before is same. leaves (sym same ∙ moved.none_before other before is);
-  }
-
-  -- the entry itself, where it is the first
-  pub begins : (entry : ℕ) → entry < length old → bit_at column entry ≢ bit_at column (number_at old entry)
-      → IsMoved old column entry (number_at old entry) None → IsLeastWith old column entry entry
-  begins entry within leaves none = record {
-    no_later = omega arith;
-    same_class = refl;
-    same_bit = refl;
-    none_before = λ other before is same. leaves (sym same ∙ none other before is);
-  }
-
-  -- one entry more
-  later : (place class first : ℕ) → IsFirstMoved old column place class first → IsFirstMoved old column (place + 1) class first
-  later place class first moved = record { before = omega (arith, moved.before); of_class = moved.of_class; leaves = moved.leaves; none_before = moved.none_before }
-
--- ---- all entries so far
+use Rattle.dcv_certify.specs.Split.{number_at, IsLeastWith, IsSplit, IsMoved, HasMoved}
 
 pub record SplitSoFar (old : List ℕ) (column : List Bool) (place : ℕ) (new : List ℕ) (moved : List (Option ℕ)) : Type 0 where
   pub count : length new ≡ place
