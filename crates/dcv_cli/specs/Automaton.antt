@@ -2,7 +2,8 @@
 --     SaysAutomaton k L names counts text
 --                       the text spells the canonical automaton of the set over k variables with these names, words that show that no
 --                       automaton for the set has fewer states, and what the steps of the formula took
-use Rattle.dcv_cli.specs.Common.{◌≡◌, ℕ, List, Some, Count, Language, AutomatonFile, spelled}
+use Rattle.std.specs.Prelude.{◌≡◌, ℕ, List, Some}
+use Rattle.dcv_cli.specs.Common.{Count, Language, AutomatonFile, spelled}
 use Rattle.dcv_print.specs.Automaton.{IsAutomatonOf}
 use Rattle.dcv_automaton_read.specs.File.{step_part as step_part_of}
 

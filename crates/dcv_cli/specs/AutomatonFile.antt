@@ -2,7 +2,8 @@
 --     IsRefusedAutomaton text refusal   the text is no automaton's, for this reason
 --     IsAutomatonText text file         the text has the form, and its file keeps the table rules
 --     OnAutomaton text RightFor o       the outcomes that are right where a command is given this text
-use Rattle.dcv_cli.specs.Common.{◌≡◌, ℕ, ◌<◌, ◌≤◌, List, length, AutomatonFile, IsGood, Refusal, Length, Syntax, Table, Only}
+use Rattle.std.specs.Prelude.{◌≡◌, ℕ, ◌<◌, ◌≤◌, List, length}
+use Rattle.dcv_cli.specs.Common.{AutomatonFile, IsGood, Refusal, Length, Syntax, Table, Only}
 use Rattle.dcv_automaton_text.specs.Form.{HasForm, IsSyntaxFault}
 use Rattle.dcv_automaton_text.specs.Rules.{IsTableFault}
 use Rattle.dcv_cli.specs.declared.refusal.Refusal.TheVariants.{Automaton}

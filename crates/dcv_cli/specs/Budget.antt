@@ -7,9 +7,9 @@
 --     IsFaultOver steps limits fault  this is the first of these steps that is over the limits
 --     IsBudgeted limits which Right ..
 --                                     the outcome names the first step over the limits, or there is none and it is right otherwise
-use Rattle.dcv_cli.specs.Common.{◌≡◌, ℕ, ◌<◌, List, Some, length, PlainFile, Limits, IsOver, IsWithinBudget, Excess, States, Nodes, Over}
+use Rattle.std.specs.Prelude.{◌≡◌, ℕ, ◌<◌, List, Some, length, slice_get}
+use Rattle.dcv_cli.specs.Common.{PlainFile, Limits, IsOver, IsWithinBudget, Excess, States, Nodes, Over}
 use Rattle.dcv_cli.specs.Common.{Refusal, Budget, Which}
-use Rattle.std.specs.Prelude.{slice_get}
 use Rattle.std.specs.Option.{option_map}
 use Rattle.dcv_scope.specs.CoreOf.{core_of_file}
 use Rattle.dcv_core.specs.Steps.{PlainStep, PlainCore, steps_of}

@@ -1,7 +1,9 @@
 -- What is right where it is asked whether the words of an automaton's text show that it is minimal.
 --     answer_words states answer      what is said of an automaton with so many states, as `certified 3`
 --     IsCertificate file outcome      the outcome says so of the file
-use Rattle.dcv_cli.specs.Common.{◌≡◌, ℕ, List, [], ◌++◌, codes, decimal, AutomatonFile, line, Status, Done, NotValid}
+use Rattle.std.specs.Fmt.{decimal}
+use Rattle.std.specs.Prelude.{◌≡◌, ℕ, List, [], ◌++◌, codes}
+use Rattle.dcv_cli.specs.Common.{AutomatonFile, line, Status, Done, NotValid}
 use Rattle.dcv_certify.specs.Certified.{IsCertified, HasFewestStates, HasGoodWords, WhereMinimal}
 use Rattle.dcv_certify.specs.declared.answer.Answer.{Answer}
 use Rattle.dcv_certify.specs.declared.answer.Answer.TheVariants.{Minimal, Access, Pair}

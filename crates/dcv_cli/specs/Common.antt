@@ -45,6 +45,3 @@ pub use Rattle.dcv_scope.specs.declared.faults.ScopeFault.{ScopeFault}
 pub use Rattle.dcv_sentence.specs.declared.faults.ReadFault.{ReadFault}
 pub use Rattle.dcv_syntax.specs.Plain.{PlainFile}
 pub use Rattle.dcv_word.specs.Behaviour.{Word}
-pub use Rattle.std.specs.Bool.{OnTrue}
-pub use Rattle.std.specs.Fmt.{decimal}
-pub use Rattle.std.specs.Prelude.{Bool, Err, IsFalse, IsTrue, List, None, Ok, Option, Result, Some, [], codes, false, if◌then◌else◌, length, map, true, ℕ, ◌&&◌, ◌++◌, ◌<◌, ◌↔◌, ◌∷◌, ◌≡◌, ◌≢◌, ◌≤◌, ◌⊎◌}

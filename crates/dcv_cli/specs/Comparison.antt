@@ -4,7 +4,8 @@
 --     LeavesComparison first second ..    what was written where an input failed
 --     have_same_texts                     for proofs alone
 --     IsCompared limits one other o       they have the same variables, both are within the limits, and so it is; or the outcome says what is not
-use Rattle.dcv_cli.specs.Common.{◌≡◌, ◌≢◌, ◌↔◌, ℕ, Bool, true, false, ◌&&◌, List, [], ◌∷◌, ◌++◌, Option, None, Some, length, codes, Word}
+use Rattle.std.specs.Prelude.{◌≡◌, ◌≢◌, ◌↔◌, ℕ, Bool, true, false, ◌&&◌, List, [], ◌∷◌, ◌++◌, Option, None, Some, length, codes}
+use Rattle.dcv_cli.specs.Common.{Word}
 use Rattle.dcv_cli.specs.Common.{PlainFile, models, IsLeastOf, line, Limits, texts_of, Excess, Formula, Product, Declarations, Only, First}
 use Rattle.dcv_cli.specs.Common.{Second, Asks}
 use Rattle.std.specs.Str.{bytes_eq}

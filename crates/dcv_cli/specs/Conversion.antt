@@ -2,7 +2,8 @@
 --     as_version to file               the file in this version
 --     IsConverted to file outcome      the outcome is its text
 --     conversion_text pieces           for proofs alone
-use Rattle.dcv_cli.specs.Common.{◌≡◌, ℕ, List, [], ◌++◌, AutomatonFile, spelled, Version, One, Two, Done}
+use Rattle.std.specs.Prelude.{◌≡◌, ℕ, List, [], ◌++◌}
+use Rattle.dcv_cli.specs.Common.{AutomatonFile, spelled, Version, One, Two, Done}
 use Rattle.dcv_automaton_text.specs.Versions.{first_version, second_version}
 use Rattle.dcv_cli.specs.declared.convert.Conversion.{Conversion}
 use Rattle.dcv_cli.specs.Outcome.{Outcome}

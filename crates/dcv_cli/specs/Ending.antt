@@ -6,7 +6,9 @@
 --     AsksFrontOf words ..     which files were asked for
 --     HasInputCause ..         what the counts of the files say
 --     Tells, TellsCause        what is on the messages
-use Rattle.dcv_cli.specs.Common.{◌≡◌, ◌⊎◌, ℕ, Bool, List, [], ◌∷◌, Option, IsTrue, IsFalse, OnTrue, Asks, AsksPrefix, has_risen, Rises}
+use Rattle.std.specs.Bool.{OnTrue}
+use Rattle.std.specs.Prelude.{◌≡◌, ◌⊎◌, ℕ, Bool, List, [], ◌∷◌, Option, IsTrue, IsFalse}
+use Rattle.dcv_cli.specs.Common.{Asks, AsksPrefix, has_risen, Rises}
 use Rattle.dcv_cli.specs.Common.{Appends, AppendsStrictPrefix, Request, Report, Certify, Convert, Implies, Stuck, Synth, Replay, Sweep}
 use Rattle.dcv_cli.specs.Common.{files_of, Open, Read, Write, Status, Input, Output, Memory}
 use Rattle.dcv_io.specs.Written.{AppendsPrefix}

@@ -5,7 +5,8 @@
 --     IsExpandedIn told name expanded  it is held under the name
 --     IsRefusedFile told name refusal  what is held under the name is no formula file
 --     IsBuilt file limits auto         the automaton is the file's, and all its steps are within the limits
-use Rattle.dcv_cli.specs.Common.{◌≡◌, ◌≤◌, ℕ, List, Option, length, map, Disk, PlainFile, models, count_of_nodes, Limits, IsAutomatonOf}
+use Rattle.std.specs.Prelude.{◌≡◌, ◌≤◌, ℕ, List, Option, length, map}
+use Rattle.dcv_cli.specs.Common.{Disk, PlainFile, models, count_of_nodes, Limits, IsAutomatonOf}
 use Rattle.dcv_cli.specs.Common.{IsWithinBudget, Refusal}
 use Rattle.dcv_core.specs.Steps.{without_core}
 use Rattle.dcv_dfa.specs.Raw.{RawValue}

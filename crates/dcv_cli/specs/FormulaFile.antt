@@ -3,7 +3,8 @@
 --     IsSentence text file      the text has no fault, and spells the file
 --     IsFormulaFile text file   nor does the file have one, in its names or its goal
 --     OnText ..                 the outcomes that are right where a command is given this text
-use Rattle.dcv_cli.specs.Common.{◌≡◌, ℕ, ◌<◌, ◌≤◌, List, None, Some, length, PlainFile, ReadFault, ScopeFault, Refusal, Formula, Which}
+use Rattle.std.specs.Prelude.{◌≡◌, ℕ, ◌<◌, ◌≤◌, List, None, Some, length}
+use Rattle.dcv_cli.specs.Common.{PlainFile, ReadFault, ScopeFault, Refusal, Formula, Which}
 use Rattle.dcv_sentence.specs.Faults.{HasFault, IsFirstFault}
 use Rattle.dcv_reader.specs.Spelling.{Spells}
 use Rattle.dcv_scope.specs.Faults.{fault_of_file}

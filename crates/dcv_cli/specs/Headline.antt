@@ -1,7 +1,8 @@
 -- The promise of the program in one place: what a run of `all` says of a text. It is what `Right` says of that command, in the words of a user.
 --     AllIsSaid file outcome           a verdict, an automaton and two observers of exactly the behaviours that model the file
 --     IsAnswered text limits outcome   so it is said; or the text's first fault is named, or the first step that is over the limits
-use Rattle.dcv_cli.specs.Common.{◌≡◌, ◌↔◌, ℕ, ◌≤◌, List, [], Some, length, map, PlainFile, models, Verdict, IsLeastOf, verdict_text}
+use Rattle.std.specs.Prelude.{◌≡◌, ◌↔◌, ℕ, ◌≤◌, List, [], Some, length, map}
+use Rattle.dcv_cli.specs.Common.{PlainFile, models, Verdict, IsLeastOf, verdict_text}
 use Rattle.dcv_cli.specs.Common.{AutomatonFile, IsGood, spelled, IsReadAsUnit, Limits, IsWithinBudget, texts_of, all_text, All, Report}
 use Rattle.dcv_cli.specs.Common.{Over, Refusal, Budget, Only, Valid, NotValid}
 use Rattle.dcv_language.specs.Certificate.{IsCertificate}

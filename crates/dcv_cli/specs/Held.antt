@@ -4,8 +4,8 @@
 --     IsHeldText told name text           this text is held under the name, where that is told
 --     IsTooLongText told name limit       so is one with more bytes than the limit
 --     ForHeld told P                      P of what the files tell that they hold
-use Rattle.dcv_cli.specs.Common.{◌≡◌, ℕ, ◌<◌, List, Option, Some, length, Disk, held_of}
-use Rattle.std.specs.Prelude.{IfSome, IsSomeAnd}
+use Rattle.std.specs.Prelude.{◌≡◌, ℕ, ◌<◌, List, Option, Some, length, IfSome, IsSomeAnd}
+use Rattle.dcv_cli.specs.Common.{Disk, held_of}
 use Rattle.dcv_cli.specs.Outcome.{Outcome}
 
 abbrev pub Texts : Type 0

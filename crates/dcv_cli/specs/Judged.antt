@@ -3,7 +3,8 @@
 --     IsJudged file limits judged      the automaton, the names and what the steps took are those of the formula file
 --     CanBePrinted judged              there is a name for each variable, and the automaton and the counts are within what may be printed
 --     Reports kind k L names counts r  the report has the set's verdict, and says what is asked for
-use Rattle.dcv_cli.specs.Common.{◌≡◌, ◌≤◌, ℕ, List, length, PlainFile, models, Language, Verdict, IsVerdict, Limits, count_of_nodes}
+use Rattle.std.specs.Prelude.{◌≡◌, ◌≤◌, ℕ, List, length}
+use Rattle.dcv_cli.specs.Common.{PlainFile, models, Language, Verdict, IsVerdict, Limits, count_of_nodes}
 use Rattle.dcv_cli.specs.Common.{IsAutomatonOf, IsWithinBudget, AreCounts, Count, texts_of, Kind}
 use Rattle.dcv_automaton_text.specs.Rules.{AreNames}
 use Rattle.dcv_print.specs.Counts.{ArePrintableCounts}

@@ -1,8 +1,8 @@
 -- The laws that `src/laws.rt` proves.
-use Rattle.dcv_cli.specs.Common.{◌≡◌, ◌≢◌, ℕ, List, Some, IsTrue, length, codes, PlainFile, models, texts_of, Limits, IsOver, Over, Budget}
+use Rattle.std.specs.Prelude.{◌≡◌, ◌≢◌, ℕ, List, Some, IsTrue, length, codes, IsSome}
+use Rattle.dcv_cli.specs.Common.{PlainFile, models, texts_of, Limits, IsOver, Over, Budget}
 use Rattle.dcv_cli.specs.Common.{Done, Valid, StatusBudget, all_text, Kind, Automaton, All as AllTexts, Request, Report, Certify, Convert}
 use Rattle.dcv_cli.specs.Common.{Implies, files_of, Version, One, Two}
-use Rattle.std.specs.Prelude.{IsSome}
 use Rattle.std.specs.List.{All}
 use Rattle.dcv_language.specs.Language.{HaveSameBehaviours}
 use Rattle.dcv_tokens.specs.Tokens.{BeginsWith}

@@ -4,7 +4,8 @@
 --     IsRefusedObserver subset text refusal     the text is no observer's, for this reason
 --     IsObserverText subset text observer       it spells the observer, which keeps the rules of names
 --     OnObserver subset text RightFor outcome   the outcomes that are right where a command is given this text
-use Rattle.dcv_cli.specs.Common.{◌≡◌, ℕ, ◌<◌, ◌≤◌, List, length, Subset, ObsFault, Observer, Refusal, ObserverRefusal, Only}
+use Rattle.std.specs.Prelude.{◌≡◌, ℕ, ◌<◌, ◌≤◌, List, length}
+use Rattle.dcv_cli.specs.Common.{Subset, ObsFault, Observer, Refusal, ObserverRefusal, Only}
 use Rattle.dcv_c.specs.Faults as c
 use Rattle.dcv_command.specs.declared.words.Subset.TheVariants.{Lustre as InLustre, C as InC}
 use Rattle.dcv_lustre.specs.Faults as lustre

@@ -1,5 +1,6 @@
 -- What is seen of the files and of the output.
-use Rattle.dcv_cli.specs.Common.{ℕ, List, Option, None, Disk}
+use Rattle.std.specs.Prelude.{ℕ, List, Option, None}
+use Rattle.dcv_cli.specs.Common.{Disk}
 
 pub record Outside : Type 0 where
   pub told : Option Disk

@@ -6,10 +6,11 @@
 --     PerformsRequest request ..       it does what the request asks for
 --     Answers Right result ..          it ends so after its last file
 --     Replies status report result ..  the report was written, or a write of it failed
-use Rattle.dcv_cli.specs.Common.{◌≡◌, ℕ, Bool, false, List, [], ◌∷◌, Option, Result, Ok, Err, IsTrue, IsFalse, OnTrue, Asks, AsksPrefix}
+use Rattle.std.specs.Bool.{OnTrue}
+use Rattle.std.specs.Prelude.{◌≡◌, ℕ, Bool, false, List, [], ◌∷◌, Option, Result, Ok, Err, IsTrue, IsFalse, IfOk, IfErr}
+use Rattle.dcv_cli.specs.Common.{Asks, AsksPrefix}
 use Rattle.dcv_cli.specs.Common.{held_of, has_risen, Rises, RisesIf, Appends, AppendsStrictPrefix, Request, files_of, Refused, Refusal}
 use Rattle.dcv_cli.specs.Common.{Write, Status, Only}
-use Rattle.std.specs.Prelude.{IfOk, IfErr}
 use Rattle.dcv_cli.specs.Ending.{EndsBy, AddsFront, StopsWithin, Leaves, LeavesNothing, HasInputCause}
 use Rattle.dcv_cli.specs.Held.{ForHeld}
 use Rattle.dcv_cli.specs.Outcome.{Outcome}

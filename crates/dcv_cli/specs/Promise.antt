@@ -2,7 +2,9 @@
 --     Seen               what is seen of the files and of both streams
 --     Promise words ..   how a run of these words ends, between what is seen before it and after it
 --     not_utf8           what is said where the arguments of the process are no text
-use Rattle.dcv_cli.specs.Common.{◌≡◌, ◌⊎◌, ℕ, true, List, [], Option, IsTrue, IsFalse, codes, OnTrue, Disk, held_of, has_risen, RisesIf}
+use Rattle.std.specs.Bool.{OnTrue}
+use Rattle.std.specs.Prelude.{◌≡◌, ◌⊎◌, ℕ, true, List, [], Option, IsTrue, IsFalse, codes}
+use Rattle.dcv_cli.specs.Common.{Disk, held_of, has_risen, RisesIf}
 use Rattle.dcv_cli.specs.Common.{Appends, line, Request, IsTaken, Status, Usage, Memory}
 use Rattle.clap.specs.Words.{takes}
 use Rattle.dcv_command.specs.Program.{program}

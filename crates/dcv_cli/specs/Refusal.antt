@@ -6,7 +6,9 @@
 --     over_words over        those of the first step that is over the limits, as `budget states 30000 at 12 step 3`
 --     ended which words      the words where a request reads two formula files, and this one is refused
 --     message_of refused     the line
-use Rattle.dcv_cli.specs.Common.{ℕ, Bool, true, false, List, ◌++◌, Result, Ok, Err, if◌then◌else◌, codes, decimal, ObsFault, ReadFault}
+use Rattle.std.specs.Fmt.{decimal}
+use Rattle.std.specs.Prelude.{ℕ, Bool, true, false, List, ◌++◌, Result, Ok, Err, if◌then◌else◌, codes}
+use Rattle.dcv_cli.specs.Common.{ObsFault, ReadFault}
 use Rattle.dcv_cli.specs.Common.{ScopeFault, line, Excess, States, Nodes, Over, Refusal, Open, Read, Formula, ObserverRefusal as Observer}
 use Rattle.dcv_cli.specs.Common.{Trace, Budget, Product, Write, Declarations, Outputs, Length as AutomatonLength, Syntax as AutomatonSyntax}
 use Rattle.dcv_cli.specs.Common.{Table as AutomatonTable, TraceFault, Line, Empty, TraceLength, Refused, Which, Only, First, Second, Status}

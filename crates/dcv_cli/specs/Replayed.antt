@@ -2,7 +2,8 @@
 --     fault_of_trace verdict            what is wrong with a trace, if it is not good
 --     IsReplay observer trace outcome   the observer's answers to the good lines of the trace, and what is wrong with it after these
 --     LeavesAnswers subset ..           what was written where an input failed
-use Rattle.dcv_cli.specs.Common.{◌≡◌, ℕ, List, [], ◌∷◌, Option, None, Some, Asks, Disk, Rises, Word, Subset, Observer, TraceFault, Line}
+use Rattle.std.specs.Prelude.{◌≡◌, ℕ, List, [], ◌∷◌, Option, None, Some}
+use Rattle.dcv_cli.specs.Common.{Asks, Disk, Rises, Word, Subset, Observer, TraceFault, Line}
 use Rattle.dcv_cli.specs.Common.{Empty, TraceLength as Length, Trace, Status, Done, StatusTrace}
 use Rattle.dcv_replay.specs.Observer.{width_of, AreAnswers}
 use Rattle.dcv_replay.specs.Replayed.{CutShort}

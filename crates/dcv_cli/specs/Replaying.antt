@@ -4,7 +4,8 @@
 --     IsRefusedIn subset told name refusal  what is held under the name is no observer's text
 --     FulfilsTrace observer name ..         the outcomes that are right for the trace, by its name
 --     LeavesTrace observer name ..          what was written where the trace failed
-use Rattle.dcv_cli.specs.Common.{◌≡◌, ℕ, List, [], ◌∷◌, Option, Some, Asks, Disk, Rises, Subset, Observer, Refusal}
+use Rattle.std.specs.Prelude.{◌≡◌, ℕ, List, [], ◌∷◌, Option, Some}
+use Rattle.dcv_cli.specs.Common.{Asks, Disk, Rises, Subset, Observer, Refusal}
 use Rattle.dcv_replay.specs.Observer.{Follows}
 use Rattle.dcv_replay.specs.Program.{ReplayValue}
 use Rattle.dcv_cli.specs.Held.{OnHeld, ForHeld, IsHeldText}

@@ -2,7 +2,8 @@
 --     Says kind ..                 the text is what the kind of report says, of a set of behaviours, what its steps took and its verdict
 --     IsReport kind limits file outcome
 --                                  the outcome is the report on the file
-use Rattle.dcv_cli.specs.Common.{◌≡◌, ℕ, List, [], length, PlainFile, models, Language, Verdict, IsVerdict, verdict_text, Count, Limits}
+use Rattle.std.specs.Prelude.{◌≡◌, ℕ, List, [], length}
+use Rattle.dcv_cli.specs.Common.{PlainFile, models, Language, Verdict, IsVerdict, verdict_text, Count, Limits}
 use Rattle.dcv_cli.specs.Common.{AreCounts, texts_of, all_text, Kind, Automaton, All}
 use Rattle.dcv_print.specs.Observers.{SaysNode, SaysUnit}
 use Rattle.dcv_language.specs.declared.kind.Kind.TheVariants.{Check, Lustre, C}

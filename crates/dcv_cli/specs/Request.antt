@@ -1,6 +1,7 @@
 -- What the arguments of the program ask for, by what the command line says of them.
 --     AsksFor words request    the words are taken, and ask for the request
-use Rattle.dcv_cli.specs.Common.{◌≡◌, ℕ, List, Some, Request, IsTaken}
+use Rattle.std.specs.Prelude.{◌≡◌, ℕ, List, Some}
+use Rattle.dcv_cli.specs.Common.{Request, IsTaken}
 use Rattle.dcv_command.specs.Request.{request_of}
 
 pub record AsksFor (words : List (List ℕ)) (request : Request) : Type 0 where

@@ -1,7 +1,8 @@
 -- Which outcomes are right for the words of a run and for what is held under the names.
 --     Fulfils request held outcome      right for the request
 --     IsRight words held outcome        right for the words
-use Rattle.dcv_cli.specs.Common.{◌≡◌, ℕ, List, [], Option, Disk, Usage, Request, Report, Certify, Convert, Implies, Stuck, Synth, Replay}
+use Rattle.std.specs.Prelude.{◌≡◌, ℕ, List, [], Option}
+use Rattle.dcv_cli.specs.Common.{Disk, Usage, Request, Report, Certify, Convert, Implies, Stuck, Synth, Replay}
 use Rattle.dcv_cli.specs.Common.{Sweep, IsTaken, Only, First, Second}
 use Rattle.dcv_cli.specs.AutomatonFile.{OnAutomaton}
 use Rattle.dcv_cli.specs.Budget.{IsBudgeted}

@@ -1,8 +1,8 @@
 -- The statuses of a run, and how they group.
-use Rattle.dcv_cli.specs.Common.{ℕ, Bool, true, false, Option, if◌then◌else◌, Word, Verdict, Status, Valid, Done, NotValid, Usage}
+use Rattle.std.specs.Prelude.{ℕ, Bool, true, false, Option, if◌then◌else◌, is_none}
+use Rattle.dcv_cli.specs.Common.{Word, Verdict, Status, Valid, Done, NotValid, Usage}
 use Rattle.dcv_cli.specs.Common.{StatusFormula as Formula, StatusBudget as Budget, Input, Output, Memory, StatusTrace as Trace}
 use Rattle.dcv_cli.specs.Common.{StatusObserver as Observer, StatusAutomaton as Automaton}
-use Rattle.std.specs.Prelude.{is_none}
 
 -- the program's exit status
 abbrev pub code_of : Status → ℕ

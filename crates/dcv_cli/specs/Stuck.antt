@@ -1,7 +1,8 @@
 -- What is right where it is asked whether what has kept to the requirement of a formula file so far can always go on.
 --     stuck_outcome least           what is said, by the least stuck word
 --     IsStuckReport file outcome    it is said of the behaviours that model the file
-use Rattle.dcv_cli.specs.Common.{◌≡◌, ◌↔◌, [], Option, None, length, Word, PlainFile, models}
+use Rattle.std.specs.Prelude.{◌≡◌, ◌↔◌, [], Option, None, length}
+use Rattle.dcv_cli.specs.Common.{Word, PlainFile, models}
 use Rattle.dcv_stuck.specs.Stuck.{KeepsTo, IsLeastStuckOf, GoesOnForEver}
 use Rattle.dcv_print.specs.Stuck.{stuck_text}
 use Rattle.dcv_cli.specs.Outcome.{Outcome}

@@ -1,7 +1,8 @@
 -- What is right where it is asked what holds of formulas that are drawn.
 --     default_limits                the limits within which each of them is built
 --     IsSwept seed count outcome    the outcome says the counts over so many formulas, drawn one after another from the seed
-use Rattle.dcv_cli.specs.Common.{◌≡◌, ℕ, [], Limits, Done}
+use Rattle.std.specs.Prelude.{◌≡◌, ℕ, []}
+use Rattle.dcv_cli.specs.Common.{Limits, Done}
 use Rattle.dcv_command.specs.Listed.{limits_by_default}
 use Rattle.dcv_sweep.specs.Findings.{IsSummary}
 use Rattle.dcv_sweep.specs.SummaryText.{summary_text}

@@ -6,9 +6,10 @@
 --     SaysStrategy n m L text                 the text has the strategy of least inputs
 --     IsSynthesis n m L names outcome         the outcome is one of the two
 --     IsSynthesised inputs limits file o      the file's variables can be divided, it is within the limits, and so it is; or the outcome says what is not
-use Rattle.dcv_cli.specs.Common.{◌≡◌, ℕ, Bool, ◌&&◌, List, [], ◌++◌, length, codes, IsTrue, IsFalse, decimal, Word, PlainFile, models}
+use Rattle.std.specs.Fmt.{decimal}
+use Rattle.std.specs.Prelude.{◌≡◌, ℕ, Bool, ◌&&◌, List, [], ◌++◌, length, codes, IsTrue, IsFalse, ◌+◌, ◌-◌, nat_le, take}
+use Rattle.dcv_cli.specs.Common.{Word, PlainFile, models}
 use Rattle.dcv_cli.specs.Common.{Language, line, IsReadAsUnit as IsReadAs, text_of, Limits, Formula, Outputs, Only, Valid, NotValid}
-use Rattle.std.specs.Prelude.{◌+◌, ◌-◌, nat_le, take}
 use Rattle.std.specs.List.{flat_map}
 use Rattle.dcv_word.specs.TraceLine.{trace_line}
 use Rattle.dcv_language.specs.Canonical.{IsCanonical}

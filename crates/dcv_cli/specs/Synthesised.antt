@@ -2,7 +2,8 @@
 --     status_of_synthesis found   the status of a run that has found it
 --     synthesis_text found        what is written of it
 --     synthesised found           that run's outcome
-use Rattle.dcv_cli.specs.Common.{ℕ, List, [], text_of, Status, Valid, NotValid}
+use Rattle.std.specs.Prelude.{ℕ, List, []}
+use Rattle.dcv_cli.specs.Common.{text_of, Status, Valid, NotValid}
 use Rattle.dcv_cli.specs.declared.synth.Synthesis.{Synthesis}
 use Rattle.dcv_cli.specs.declared.synth.Synthesis.TheVariants.{Controller, Strategy}
 use Rattle.dcv_cli.specs.Outcome.{Outcome}
