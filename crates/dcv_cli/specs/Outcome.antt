@@ -10,8 +10,9 @@
 --     AgreeInMeaning kind one other
 --                             reports that are the same, but for what is left to the program and what the steps took
 use Rattle.std.specs.Prelude.{◌≡◌, ◌≢◌, ◌⊎◌, ℕ, Bool, true, false, List, [], IsFalse}
+use Rattle.std.specs.Bool.{OnTrue}
 use Rattle.dcv_cli.specs.Common.{line, Excess, Over, Refusal, Budget, Product}
-use Rattle.dcv_cli.specs.Common.{Status, Usage, Kind, Automaton, All, Which, Only, OnTrue}
+use Rattle.dcv_cli.specs.Common.{Status, Usage, Kind, Automaton, All, Which, Only}
 use Rattle.dcv_print.specs.Automaton.{DifferInSuffixes, AgreeUpToAccess}
 use Rattle.dcv_cli.specs.Refusal.{status_of, words_of, ended}
 use Rattle.dcv_cli.specs.Status.{is_determined}
