@@ -43,7 +43,7 @@ pub(crate) fn print_verdict(rt: &HostRuntime) -> Result<()> {
     print!(rt; "{}", String::from_utf8_lossy(alloc, &text)?)?;
     if let Some(word) = shortest(alloc, &auto, false)? {
         println!(rt;
-            "least behaviour that breaks it: {} instants",
+            "instants of the least behaviour that breaks it: {}",
             word.letters().len()
         )?;
     }

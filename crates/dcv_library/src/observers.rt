@@ -23,8 +23,16 @@ pub(crate) fn print_observer(rt: &HostRuntime) -> Result<()> {
     let auto = auto_of(alloc, b"var p; infer [[p]];")?;
     let text = observer_of(alloc, &auto)?;
     print!(rt; "{}", String::from_utf8_lossy(alloc, &text)?)?;
-    println!(rt; "a unit: {}", read(alloc, &text).is_ok())?;
+    println!(rt; "a unit: {}", is_unit(alloc, &text)?)?;
     Ok(())
+}
+
+// Whether a text is that of a unit.
+fn is_unit(alloc: Global, text: &[u8]) -> Result<bool> {
+    if text.len() > u32::MAX as usize {
+        bail!("the text is too long");
+    }
+    Ok(read(alloc, text).is_ok())
 }
 
 // The observer of an automaton over the one variable `p`.
