@@ -41,30 +41,6 @@ at_some_step core tree limits is (OverStates step limit) over = over_is_there co
 at_some_step core tree limits is (OverNodes step limit) over = over_is_there core tree limits TooManyNodes step is over.1
 at_some_step core tree limits is NoMemory over = tt
 
-begins_there : (steps : List PlainStep) (step at : ℕ) → option_map (λ (s : CoreStep). s.span.start) (slice_get (map without_core steps) step) ≡ Some at
-    → option_map (λ (s : PlainStep). s.span.start) (slice_get steps step) ≡ Some at
-begins_there steps step at begins = by (slice_get steps step) (ap (option_map (λ (s : CoreStep). s.span.start)) (sym (slice_get-map without_core steps step)) ∙ begins)
-  where
-    by : (found : Option PlainStep) → option_map (λ (s : CoreStep). s.span.start) (option_map without_core found) ≡ Some at
-        → option_map (λ (s : PlainStep). s.span.start) found ≡ Some at
-    by None e = e
-    by (Some s) e = e
-
-module _ (core : PlainCore) (tree : CoreTree) (limits : Limits) (is : IsCoreOf tree core) where
-  pub first_over : (excess : Excess) (limit step : ℕ) (over : Over) → limit ≡ limit_of excess limits
-      → IsOver (steps_of core.declared tree) limits (kind_of excess) step → over.excess ≡ excess → over.limit ≡ limit → over.step ≡ step
-      → option_map (λ (s : CoreStep). s.span.start) (slice_get core.steps step) ≡ Some over.at → IsFirstOverIn (steps_of core.declared tree) limits over
-  first_over excess limit step over limit_is is_over same_excess same_limit same_step begins = record {
-    is_over =
-        subst (λ e. IsOver (steps_of core.declared tree) limits (kind_of e) over.step) (sym same_excess)
-        (subst (λ n. IsOver (steps_of core.declared tree) limits (kind_of excess) n) (sym same_step) is_over);
-    limit = same_limit ∙ limit_is ∙ ap (λ e. limit_of e limits) (sym same_excess);
-    begins =
-        begins_there (steps_of core.declared tree) over.step over.at
-        (ap (λ steps. option_map (λ (s : CoreStep). s.span.start) (slice_get steps over.step)) (sym is)
-        ∙ ap (λ n. option_map (λ (s : CoreStep). s.span.start) (slice_get core.steps n)) same_step ∙ begins);
-  }
-
 -- ---- verdicts
 
 -- what an automaton accepts are the behaviours of each set whose canonical automaton it is
@@ -124,16 +100,3 @@ module _ (file : PlainFile) (core : PlainCore) (declared : core.declared ≡ len
       → IfOk result (λ built. IsBuilt file limits built.auto)
   built_if_ok unbound limits (Ok built) models_are move canonical within states nodes = built_of_file unbound limits built.auto models_are move canonical within states nodes
   built_if_ok unbound limits (Err refusal) models_are move canonical within states nodes = tt
-
-  pub counted_if_ok : (limits : Limits) (result : Result Built Refusal)
-      → ((tree : CoreTree) → IsCoreOf tree core → IfOk result (λ built. AreCounts (steps_of core.declared tree) limits built.counts.items))
-      → IfOk result (λ built. AreCounts (steps_of_file file) limits built.counts.items)
-  counted_if_ok limits (Ok built) counts =
-      subst (λ k. AreCounts (steps_of k (core_of_file file)) limits built.counts.items) declared (counts (core_of_file file) core_of_the_file)
-  counted_if_ok limits (Err refusal) counts = tt
-
-  pub over_if_err : {T : Type 0} (limits : Limits) (result : Result T Refusal)
-      → ((tree : CoreTree) → IsCoreOf tree core → IfErr result (NamesFirstOver (steps_of core.declared tree) limits))
-      → IfErr result (NamesFirstOver (steps_of_file file) limits)
-  over_if_err limits (Ok built) over = tt
-  over_if_err limits (Err refusal) over = over_in_file limits refusal over

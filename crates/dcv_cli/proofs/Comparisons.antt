@@ -70,7 +70,8 @@ module _ (given others : List Name) (one other : PlainFile) (result : Bool) (is 
   names_same found = same_texts (texts_of one.variables) (texts_of other.variables) (there ∙ found)
 
   pub names_differ : result ≡ false → texts_of one.variables ≢ texts_of other.variables
-  names_differ none same = true≢false (sym (have_own_texts (texts_of one.variables)) ∙ ap (have_same_texts (texts_of one.variables)) same ∙ there ∙ none)
+  names_differ none same =
+      true≢false (sym (have_own_texts (texts_of one.variables)) ∙ ap (have_same_texts (texts_of one.variables)) same ∙ there ∙ none)
 
 -- ---- files that were built
 

@@ -32,7 +32,8 @@ verdict_exactly k L verdict is = by verdict.counterexample is
     of : Option Word → Status
     of found = status_of_verdict (record { counterexample = found; example = None })
 
-    by : (found : Option Word) → IsLeastOf k (outside L) found → ((of found ≡ Valid) ↔ HasEvery k L) × ((of found ≡ NotValid) ↔ (HasEvery k L → ⊥))
+    by : (found : Option Word) → IsLeastOf k (outside L) found
+        → ((of found ≡ Valid) ↔ HasEvery k L) × ((of found ≡ NotValid) ↔ (HasEvery k L → ⊥))
     by None none =
         let every : HasEvery k L = λ word behaves. twice_denied (L word) (none word behaves) in
         ((λ valid. every, λ every. refl), (λ broken. absurd (no_valid (sym broken)), λ some. absurd (some every)))

@@ -106,8 +106,9 @@ module _ (one_tree : SpellsOne) (one_fault : FaultIsUnique) (one_verdict : OneVe
   one_place : (limits : Limits) (file : PlainFile) (over another : Over) → IsFirstOver limits file over → IsFirstOver limits file another → over.at ≡ another.at
   one_place limits file over another is is' =
       let same : Some over.at ≡ Some another.at =
-      sym is.begins ∙ ap (λ number. option_map (λ (step : PlainStep). step.span.start) (slice_get (steps_of_file file) number)) (one_first limits file over another is is')
-      ∙ is'.begins in cc
+      sym is.begins
+      ∙ ap (λ number. option_map (λ (step : PlainStep). step.span.start) (slice_get (steps_of_file file) number))
+      (one_first limits file over another is is') ∙ is'.begins in cc
 
   -- what there is too much of decides what is said of it
   one_excess : (limits : Limits) (file : PlainFile) (over another : Over) → IsFirstOver limits file over → IsFirstOver limits file another

@@ -167,7 +167,8 @@ module _ (some_reading : SomeReading) (reports : SomeReport) (syntheses : SomeSy
   some_for_request : (held : Texts) (request : Request) → IsInRange request → ((time : ℕ) → All (λ name. IsSome (held time name)) (files_of request))
       → (outcome : Outcome) × Fulfils request held outcome
   some_for_request held (Report kind name limits) range there =
-      held_under (λ text. OnText text Only (IsBudgeted limits Only (IsReport kind limits))) (held 0) name (All-head (λ n. IsSome (held 0 n)) name [] (there 0))
+      held_under (λ text. OnText text Only (IsBudgeted limits Only (IsReport kind limits))) (held 0) name
+      (All-head (λ n. IsSome (held 0 n)) name [] (there 0))
       (λ text. on_text Only (IsBudgeted limits Only (IsReport kind limits)) text (reports kind limits range text))
   some_for_request held (Certify name) range there =
       held_under (λ text. OnAutomaton text IsCertificate) (held 0) name (All-head (λ n. IsSome (held 0 n)) name [] (there 0))
@@ -178,17 +179,21 @@ module _ (some_reading : SomeReading) (reports : SomeReport) (syntheses : SomeSy
   some_for_request held (Implies first second limits) range there =
       let here = recursion_from_All (λ n. IsSome (held 0 n)) (first ∷ second ∷ []) (there 0) in
       let other = recursion_from_All (λ n. IsSome (held 1 n)) (first ∷ second ∷ []) (there 1) in
-      held_under (λ text. OnText text First (λ one. OnHeld (held 1) second (λ other_text. OnText other_text Second (IsCompared limits one)))) (held 0) first here.0
+      held_under (λ text. OnText text First (λ one. OnHeld (held 1) second (λ other_text. OnText other_text Second (IsCompared limits one))))
+      (held 0) first here.0
       (λ text. on_text First (λ one. OnHeld (held 1) second (λ other_text. OnText other_text Second (IsCompared limits one))) text
       (λ one formula. held_under (λ other_text. OnText other_text Second (IsCompared limits one)) (held 1) second other.1.0
       (λ other_text. on_text Second (IsCompared limits one) other_text
-      (λ file other_formula. some_comparison laws accept outside_is models_are none_included limits one file formula.has_core other_formula.has_core))))
+      (λ file other_formula.
+      some_comparison laws accept outside_is models_are none_included limits one file formula.has_core other_formula.has_core))))
   some_for_request held (Stuck name limits) range there =
-      held_under (λ text. OnText text Only (IsBudgeted limits Only IsStuckReport)) (held 0) name (All-head (λ n. IsSome (held 0 n)) name [] (there 0))
+      held_under (λ text. OnText text Only (IsBudgeted limits Only IsStuckReport)) (held 0) name
+      (All-head (λ n. IsSome (held 0 n)) name [] (there 0))
       (λ text. on_text Only (IsBudgeted limits Only IsStuckReport) text
       (λ file formula. some_stuck_report goes_on laws accept models_are limits file formula.has_core))
   some_for_request held (Synth name inputs limits) range there =
-      held_under (λ text. OnText text Only (IsSynthesised inputs limits)) (held 0) name (All-head (λ n. IsSome (held 0 n)) name [] (there 0))
+      held_under (λ text. OnText text Only (IsSynthesised inputs limits)) (held 0) name
+      (All-head (λ n. IsSome (held 0 n)) name [] (there 0))
       (λ text. on_text Only (IsSynthesised inputs limits) text (syntheses inputs limits range text))
   some_for_request held (Replay subset observer trace) range there =
       let one = recursion_from_All (λ n. IsSome (held 0 n)) (observer ∷ trace ∷ []) (there 0) in

@@ -96,7 +96,8 @@ module _ (one_automaton : OneAutomaton) (one_file : OneFile) (k : ℕ) (L : Lang
   pub one_meaning : (v u : Verdict) (counts others : List Count) (one other : List ℕ) (kind : Kind) → v ≡ u → Says kind k L names counts v one
       → Says kind k L names others u other → (one ≡ other) ⊎ AgreeUpToAccess one other
   one_meaning v u counts others one other kind same says says' =
-      texts_alike counts others AreSameUpToAccess (λ f g is is' steps steps'. one_automaton k L names f g is is') v u one other kind same says says'
+      texts_alike counts others AreSameUpToAccess (λ f g is is' steps steps'. one_automaton k L names f g is is')
+      v u one other kind same says says'
 
 -- ---- sets with the same behaviours
 
