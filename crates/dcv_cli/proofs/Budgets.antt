@@ -1,14 +1,14 @@
 -- What `build` answers of a core is what is right for the steps of its file, and the verdict of its automaton is that of its words.
-use Rattle.dcv_cli.proofs.Common.{◌≡◌, ℕ, ◌<◌, ◌≤◌, Bool, List, length, map, Option, None, Some, Result, Ok, Err, sym, ap, ◌∙◌, subst, IfOk}
-use Rattle.dcv_cli.proofs.Common.{IfErr, OnOk, slice_get, option_map, slice_get_within, Language, HaveSameBehaviours, PlainFile, models}
+use Rattle.dcv_cli.proofs.Common.{◌≡◌, ℕ, ◌<◌, ◌≤◌, Bool, List, length, map, Result, Ok, Err, sym, ap, ◌∙◌, subst, IfOk}
+use Rattle.dcv_cli.proofs.Common.{OnOk, slice_get, option_map, slice_get_within, Language, HaveSameBehaviours, PlainFile, models}
 use Rattle.dcv_cli.proofs.Common.{CoreTree, core_of_file, words_of, WordsAreModels, PlainStep, steps_of, TableAcceptsAsTheStates, RawValue}
 use Rattle.dcv_cli.proofs.Common.{IsRaw, raw_accepts, table_accepts, IsAuto, table_of_states, Limits, TooManyStates, TooManyNodes}
-use Rattle.dcv_cli.proofs.Common.{IsAutomatonOf, IsOver, IsWithinBudget, AreCounts, Excess, Over, Refusal, IsBuilt, steps_of_file, kind_of}
-use Rattle.dcv_cli.proofs.Common.{limit_of, NamesFirstOver, IsAtSomeStep, IsFaultOver}
+use Rattle.dcv_cli.proofs.Common.{IsAutomatonOf, IsOver, IsWithinBudget, Refusal, IsBuilt, steps_of_file}
+use Rattle.dcv_cli.proofs.Common.{IsAtSomeStep, IsFaultOver}
 use Rattle.std.proofs.lemmas.Option.{slice_get-map}
 use Rattle.dcv_language.specs.Laws.{CanonicalForSameBehaviours}
 use Rattle.dcv_scope.specs.Laws.{HasNoBoundShift}
-use Rattle.dcv_core.specs.Steps.{PlainCore, CoreStep, without_core}
+use Rattle.dcv_core.specs.Steps.{PlainCore, without_core}
 use Rattle.dcv_dfa.specs.Auto.{count_of_nodes}
 use Rattle.dcv_explore.specs.Budget.{Kind}
 use Rattle.dcv_build.specs.Budget.{IsRawOf}
@@ -16,7 +16,6 @@ use Rattle.dcv_build.specs.Given.{IsCoreOf, IsCore}
 use Rattle.dcv_build.specs.declared.builder.Built.{Built}
 use Rattle.dcv_build.specs.declared.faults.BuildFault.{BuildFault}
 use Rattle.dcv_build.specs.declared.faults.BuildFault.TheVariants.{States as OverStates, Nodes as OverNodes, Memory as NoMemory}
-use Rattle.dcv_cli.specs.Budget.{IsFirstOverIn}
 
 -- ---- steps of a core, with and without their trees
 
@@ -57,11 +56,6 @@ module _ (file : PlainFile) (core : PlainCore) (declared : core.declared ≡ len
 
   pub is_core : IsCore core
   is_core = record { tree = core_of_file file; is = core_of_the_file }
-
-  pub over_in_file : (limits : Limits) (refusal : Refusal) → ((tree : CoreTree) → IsCoreOf tree core → NamesFirstOver (steps_of core.declared tree) limits refusal)
-      → NamesFirstOver (steps_of_file file) limits refusal
-  over_in_file limits refusal over =
-      subst (λ k. NamesFirstOver (steps_of k (core_of_file file)) limits refusal) declared (over (core_of_file file) core_of_the_file)
 
   pub within_in_file : (limits : Limits) → ((tree : CoreTree) → IsCoreOf tree core → IsWithinBudget (steps_of core.declared tree) limits)
       → IsWithinBudget (steps_of_file file) limits

@@ -1,12 +1,12 @@
 -- A front of a later piece, after whole earlier ones, is a front of all of them.
 use Rattle.dcv_cli.proofs.Common.{◌≡◌, ℕ, suc, ◌<◌, List, ◌++◌, codes, append_assoc, length, get_or, take, drop, Option, sym, ap, ◌∙◌}
 use Rattle.dcv_cli.proofs.Common.{subst, OnOk, OnErr, ⊤, Result, Ok, Err, refl, Failed, line, message_of, Which, Only, First, Second}
-use Rattle.dcv_cli.proofs.Common.{flat_map, ◌≤◌, arith, length-append, Appends, AppendsPrefix, AppendsStrictPrefix, strict_is_prefix}
+use Rattle.dcv_cli.proofs.Common.{flat_map, Appends, AppendsPrefix, AppendsStrictPrefix, strict_is_prefix}
 use Rattle.std.specs.Borrow.{Bor}
 use Rattle.dcv_cli.specs.Refusal.{words_of, ended, end_of}
 use Rattle.dcv_cli.specs.declared.refused.Refused.{Refused}
 use Rattle.std.proofs.lemmas.Grind.{flat_map-append}
-use Rattle.std.proofs.lemmas.List.{take-append-drop, take-append-le}
+use Rattle.std.proofs.lemmas.List.{take-append-drop}
 use Rattle.std.proofs.Math.Seq.{drop-cons}
 use Rattle.dcv_io.specs.Written.{appended}
 use Rattle.dcv_io.proofs.Appending.{appends_further, appends_less, appended-appended}

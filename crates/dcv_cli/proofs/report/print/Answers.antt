@@ -3,9 +3,6 @@ use Rattle.dcv_cli.proofs.Outcomes.{answer_of_verdict, answers_over, answers_rep
 use Rattle.dcv_cli.proofs.ThreeEnds.{answers_reply}
 use Rattle.dcv_cli.proofs.report.print.Goals as goal
 
-pub judge-requires : goal.judge-requires
-judge-requires g c = record { core = c.requires.text.1.is.core; limits = c.requires.limits }
-
 pub report_on-requires : goal.report_on-requires
 report_on-requires g c =
     let given = c.requires.text.1 in (c.in_ok-judged.ensures.judged c.requires.text.0 given.file given.formula given.is).printable
