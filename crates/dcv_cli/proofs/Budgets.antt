@@ -1,14 +1,14 @@
 -- What `build` answers of a core is what is right for the steps of its file, and the verdict of its automaton is that of its words.
-use Rattle.dcv_cli.proofs.Common.{◌≡◌, ℕ, ◌<◌, ◌≤◌, Bool, List, length, map, Option, None, Some, Result, Ok, Err, sym, ap, ◌∙◌, subst, IfOk}
-use Rattle.dcv_cli.proofs.Common.{IfErr, OnOk, slice_get, option_map, slice_get_within, Language, HaveSameBehaviours, PlainFile, models}
+use Rattle.dcv_cli.proofs.Common.{◌≡◌, ℕ, ◌<◌, ◌≤◌, Bool, List, length, map, Result, Ok, Err, sym, ap, ◌∙◌, subst, IfOk}
+use Rattle.dcv_cli.proofs.Common.{OnOk, slice_get, option_map, slice_get_within, Language, HaveSameBehaviours, PlainFile, models}
 use Rattle.dcv_cli.proofs.Common.{CoreTree, core_of_file, words_of, WordsAreModels, PlainStep, steps_of, TableAcceptsAsTheStates, RawValue}
 use Rattle.dcv_cli.proofs.Common.{IsRaw, raw_accepts, table_accepts, IsAuto, table_of_states, Limits, TooManyStates, TooManyNodes}
-use Rattle.dcv_cli.proofs.Common.{IsAutomatonOf, IsOver, IsWithinBudget, AreCounts, Excess, Over, Refusal, IsBuilt, steps_of_file, kind_of}
-use Rattle.dcv_cli.proofs.Common.{limit_of, NamesFirstOver, IsAtSomeStep, IsFaultOver}
+use Rattle.dcv_cli.proofs.Common.{IsAutomatonOf, IsOver, IsWithinBudget, Refusal, IsBuilt, steps_of_file}
+use Rattle.dcv_cli.proofs.Common.{IsAtSomeStep, IsFaultOver}
 use Rattle.std.proofs.lemmas.Option.{slice_get-map}
 use Rattle.dcv_language.specs.Laws.{CanonicalForSameBehaviours}
 use Rattle.dcv_scope.specs.Laws.{HasNoBoundShift}
-use Rattle.dcv_core.specs.Steps.{PlainCore, CoreStep, without_core}
+use Rattle.dcv_core.specs.Steps.{PlainCore, without_core}
 use Rattle.dcv_dfa.specs.Auto.{count_of_nodes}
 use Rattle.dcv_explore.specs.Budget.{Kind}
 use Rattle.dcv_build.specs.Budget.{IsRawOf}
@@ -16,7 +16,6 @@ use Rattle.dcv_build.specs.Given.{IsCoreOf, IsCore}
 use Rattle.dcv_build.specs.declared.builder.Built.{Built}
 use Rattle.dcv_build.specs.declared.faults.BuildFault.{BuildFault}
 use Rattle.dcv_build.specs.declared.faults.BuildFault.TheVariants.{States as OverStates, Nodes as OverNodes, Memory as NoMemory}
-use Rattle.dcv_cli.specs.Budget.{IsFirstOverIn}
 
 -- ---- steps of a core, with and without their trees
 
@@ -41,30 +40,6 @@ at_some_step core tree limits is (OverStates step limit) over = over_is_there co
 at_some_step core tree limits is (OverNodes step limit) over = over_is_there core tree limits TooManyNodes step is over.1
 at_some_step core tree limits is NoMemory over = tt
 
-begins_there : (steps : List PlainStep) (step at : ℕ) → option_map (λ (s : CoreStep). s.span.start) (slice_get (map without_core steps) step) ≡ Some at
-    → option_map (λ (s : PlainStep). s.span.start) (slice_get steps step) ≡ Some at
-begins_there steps step at begins = by (slice_get steps step) (ap (option_map (λ (s : CoreStep). s.span.start)) (sym (slice_get-map without_core steps step)) ∙ begins)
-  where
-    by : (found : Option PlainStep) → option_map (λ (s : CoreStep). s.span.start) (option_map without_core found) ≡ Some at
-        → option_map (λ (s : PlainStep). s.span.start) found ≡ Some at
-    by None e = e
-    by (Some s) e = e
-
-module _ (core : PlainCore) (tree : CoreTree) (limits : Limits) (is : IsCoreOf tree core) where
-  pub first_over : (excess : Excess) (limit step : ℕ) (over : Over) → limit ≡ limit_of excess limits
-      → IsOver (steps_of core.declared tree) limits (kind_of excess) step → over.excess ≡ excess → over.limit ≡ limit → over.step ≡ step
-      → option_map (λ (s : CoreStep). s.span.start) (slice_get core.steps step) ≡ Some over.at → IsFirstOverIn (steps_of core.declared tree) limits over
-  first_over excess limit step over limit_is is_over same_excess same_limit same_step begins = record {
-    is_over =
-        subst (λ e. IsOver (steps_of core.declared tree) limits (kind_of e) over.step) (sym same_excess)
-        (subst (λ n. IsOver (steps_of core.declared tree) limits (kind_of excess) n) (sym same_step) is_over);
-    limit = same_limit ∙ limit_is ∙ ap (λ e. limit_of e limits) (sym same_excess);
-    begins =
-        begins_there (steps_of core.declared tree) over.step over.at
-        (ap (λ steps. option_map (λ (s : CoreStep). s.span.start) (slice_get steps over.step)) (sym is)
-        ∙ ap (λ n. option_map (λ (s : CoreStep). s.span.start) (slice_get core.steps n)) same_step ∙ begins);
-  }
-
 -- ---- verdicts
 
 -- what an automaton accepts are the behaviours of each set whose canonical automaton it is
@@ -81,11 +56,6 @@ module _ (file : PlainFile) (core : PlainCore) (declared : core.declared ≡ len
 
   pub is_core : IsCore core
   is_core = record { tree = core_of_file file; is = core_of_the_file }
-
-  pub over_in_file : (limits : Limits) (refusal : Refusal) → ((tree : CoreTree) → IsCoreOf tree core → NamesFirstOver (steps_of core.declared tree) limits refusal)
-      → NamesFirstOver (steps_of_file file) limits refusal
-  over_in_file limits refusal over =
-      subst (λ k. NamesFirstOver (steps_of k (core_of_file file)) limits refusal) declared (over (core_of_file file) core_of_the_file)
 
   pub within_in_file : (limits : Limits) → ((tree : CoreTree) → IsCoreOf tree core → IsWithinBudget (steps_of core.declared tree) limits)
       → IsWithinBudget (steps_of_file file) limits
@@ -124,16 +94,3 @@ module _ (file : PlainFile) (core : PlainCore) (declared : core.declared ≡ len
       → IfOk result (λ built. IsBuilt file limits built.auto)
   built_if_ok unbound limits (Ok built) models_are move canonical within states nodes = built_of_file unbound limits built.auto models_are move canonical within states nodes
   built_if_ok unbound limits (Err refusal) models_are move canonical within states nodes = tt
-
-  pub counted_if_ok : (limits : Limits) (result : Result Built Refusal)
-      → ((tree : CoreTree) → IsCoreOf tree core → IfOk result (λ built. AreCounts (steps_of core.declared tree) limits built.counts.items))
-      → IfOk result (λ built. AreCounts (steps_of_file file) limits built.counts.items)
-  counted_if_ok limits (Ok built) counts =
-      subst (λ k. AreCounts (steps_of k (core_of_file file)) limits built.counts.items) declared (counts (core_of_file file) core_of_the_file)
-  counted_if_ok limits (Err refusal) counts = tt
-
-  pub over_if_err : {T : Type 0} (limits : Limits) (result : Result T Refusal)
-      → ((tree : CoreTree) → IsCoreOf tree core → IfErr result (NamesFirstOver (steps_of core.declared tree) limits))
-      → IfErr result (NamesFirstOver (steps_of_file file) limits)
-  over_if_err limits (Ok built) over = tt
-  over_if_err limits (Err refusal) over = over_in_file limits refusal over

@@ -9,7 +9,7 @@ use Rattle.dcv_cli.proofs.Common.{IsBuilt, IsFormulaFile, OnText, Refused, Read 
 use Rattle.dcv_cli.proofs.Common.{FulfilsOver, Implies, OnTrue, IsSomeAnd, Outcome, IsExplained, refused, Outside, LeavesFor, is_answer}
 use Rattle.dcv_cli.proofs.Common.{status_of_least, States, Nodes, Refusal, Formula, Budget, Product, Memory, Declarations, Which, Only}
 use Rattle.dcv_cli.proofs.Common.{First, Second}
-use Rattle.std.specs.Prelude.{◌&&◌}
+use Rattle.clap.proofs.WalkLemmas.{both}
 use Rattle.dcv_io.specs.Putting.{Put}
 use Rattle.dcv_word.specs.Word.{WordValue}
 use Rattle.dcv_language.specs.VerdictText.{shown}
@@ -34,15 +34,9 @@ pub answers_least : (least : Option Word) → IsTrue (is_answer (status_of_least
 answers_least None = refl
 answers_least (Some word) = refl
 
-heads_same : (name other : List ℕ) (names others : List (List ℕ)) → (name ∷ names) ≡ (other ∷ others) → name ≡ other
-heads_same name other names others e = cc
-
-tails_same : (name other : List ℕ) (names others : List (List ℕ)) → (name ∷ names) ≡ (other ∷ others) → names ≡ others
-tails_same name other names others e = cc
-
 -- ---- inclusion
 
-none_is : NoneWhereIncluded → (k : ℕ) (L M : Language) (least : Option Word) → IsLeastOf k (difference L M) least → (least ≡ None) ↔ IsIncluded k L M
+pub none_is : NoneWhereIncluded → (k : ℕ) (L M : Language) (least : Option Word) → IsLeastOf k (difference L M) least → (least ≡ None) ↔ IsIncluded k L M
 none_is none k L M None is = ((λ e. (none k L M).0 is), (λ included. refl))
 none_is none k L M (Some word) is = (
   (λ e. let wrong : Some word ≡ None = e in cc),
@@ -52,27 +46,20 @@ none_is none k L M (Some word) is = (
 
 -- ---- names
 
-abbrev IsSo : Bool → List (List ℕ) → List (List ℕ) → Type 0
-IsSo true names others = names ≡ others
-IsSo false names others = names ≢ others
+have_own_texts : (names : List (List ℕ)) → have_same_texts names names ≡ true
+have_own_texts [] = refl
+have_own_texts (name ∷ names) = rw ((bytes_eq-Decides name name).1 refl) (have_own_texts names)
 
-same_or_not : (names others : List (List ℕ)) (same : Bool) → have_same_texts names others ≡ same → IsSo same names others
-same_or_not [] [] true is = refl
-same_or_not [] [] false is = absurd (true≢false is)
-same_or_not [] (other ∷ others) true is = absurd (true≢false (sym is))
-same_or_not [] (other ∷ others) false is = λ e. cc
-same_or_not (name ∷ names) [] true is = absurd (true≢false (sym is))
-same_or_not (name ∷ names) [] false is = λ e. cc
-same_or_not (name ∷ names) (other ∷ others) same is = by (bytes_eq name other) refl (have_same_texts names others) (same_or_not names others _ refl) same is
-  where
-    by : (here : Bool) → bytes_eq name other ≡ here → (behind : Bool) → IsSo behind names others → (same : Bool) → (here && behind) ≡ same
-        → IsSo same (name ∷ names) (other ∷ others)
-    by true here true behind true is = (λ i. (bytes_eq-Decides name other).0 here i ∷ behind i)
-    by true here true behind false is = absurd (true≢false is)
-    by true here false behind true is = absurd (true≢false (sym is))
-    by true here false behind false is = λ e. behind (tails_same name other names others e)
-    by false here behind is' true is = absurd (true≢false (sym is))
-    by false here behind is' false is = λ e. true≢false (sym ((bytes_eq-Decides name other).1 (heads_same name other names others e)) ∙ here)
+same_texts : (names others : List (List ℕ)) → have_same_texts names others ≡ true → names ≡ others
+same_texts [] [] is = refl
+same_texts [] (other ∷ others) is = absurd (true≢false (sym is))
+same_texts (name ∷ names) [] is = absurd (true≢false (sym is))
+same_texts (name ∷ names) (other ∷ others) is =
+    let tests = both (bytes_eq name other) _ is in λ i. (bytes_eq-Decides name other).0 tests.0 i ∷ same_texts names others tests.1 i
+
+pub count_same : (names others : List Name) → texts_of names ≡ texts_of others → length names ≡ length others
+count_same names others same =
+    sym (length-map names (λ (name : Name). name.text)) ∙ ap length same ∙ length-map others (λ (name : Name). name.text)
 
 module _ (given others : List Name) (one other : PlainFile) (result : Bool) (is : result ≡ have_same_texts (texts_of given) (texts_of others))
     (first : given ≡ one.variables) (second : others ≡ other.variables) where
@@ -80,10 +67,11 @@ module _ (given others : List Name) (one other : PlainFile) (result : Bool) (is 
   there = sym (is ∙ (λ i. have_same_texts (texts_of (first i)) (texts_of (second i))))
 
   pub names_same : result ≡ true → texts_of one.variables ≡ texts_of other.variables
-  names_same found = same_or_not (texts_of one.variables) (texts_of other.variables) true (there ∙ found)
+  names_same found = same_texts (texts_of one.variables) (texts_of other.variables) (there ∙ found)
 
   pub names_differ : result ≡ false → texts_of one.variables ≢ texts_of other.variables
-  names_differ none = same_or_not (texts_of one.variables) (texts_of other.variables) false (there ∙ none)
+  names_differ none same =
+      true≢false (sym (have_own_texts (texts_of one.variables)) ∙ ap (have_same_texts (texts_of one.variables)) same ∙ there ∙ none)
 
 -- ---- files that were built
 
@@ -104,15 +92,11 @@ module _ (limits : Limits) (one other : PlainFile) where
 
   module _ (move : AnswerOfAutomata) (none : NoneWhereIncluded) (first second : RawValue) (first_auto : IsAuto first) (second_auto : IsAuto second)
       (same : texts_of one.variables ≡ texts_of other.variables) (of_one : IsBuilt one limits first) (of_other : IsBuilt other limits second) where
-    count : length other.variables ≡ length one.variables
-    count =
-        sym (length-map other.variables (λ (name : Name). name.text)) ∙ ap length (sym same) ∙ length-map one.variables (λ (name : Name). name.text)
-
     -- what is answered of the automata is answered of the files
     answer : (found : Answer) → IsAnswer limits first.arena.slots (raw_accepts first) (raw_accepts second) found → IsAnswer limits (length one.variables) (models one) (models other) found
     answer found is =
         move limits (length one.variables) (models one) (models other) first second found first_auto second_auto of_one.automaton
-        (subst (λ k. IsAutomatonOf k (models other) second) count of_other.automaton) is
+        (subst (λ k. IsAutomatonOf k (models other) second) (count_same other.variables one.variables (sym same)) of_other.automaton) is
 
     pub compares : (least : Option Word) → IsProductWithin limits first.arena.slots (raw_accepts first) (raw_accepts second)
         → IsLeastOf first.arena.slots (difference (raw_accepts first) (raw_accepts second)) least → IsCompared limits one other (compared least)
@@ -143,10 +127,6 @@ module _ (limits : Limits) (one other : PlainFile) where
 
 pub undeclared : (limits : Limits) (one other : PlainFile) → texts_of one.variables ≢ texts_of other.variables → IsCompared limits one other (refused (Formula Declarations) Only)
 undeclared limits one other differ = Undeclared differ refl
-
-pub count_same : (names others : List Name) → texts_of names ≡ texts_of others → length names ≡ length others
-count_same names others same =
-    sym (length-map names (λ (name : Name). name.text)) ∙ ap length same ∙ length-map others (λ (name : Name). name.text)
 
 -- what is right where it is determined, is right for each
 pub on_true_each : (b : Bool) {X : Type 0} (P Q : X → Type 0) → ((x : X) → P x → OnTrue b (Q x)) → OnTrue b ((x : X) → P x → Q x)

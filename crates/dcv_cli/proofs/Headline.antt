@@ -22,33 +22,24 @@ twice_denied : (b : Bool) → not (not b) ≡ true → b ≡ true
 twice_denied true is = refl
 twice_denied false is = is
 
-denied_or_so : (b : Bool) → not b ≡ true → b ≡ true → ⊥
-denied_or_so true is so = false≢true is
-denied_or_so false is so = false≢true so
-
 no_valid : NotValid ≡ Valid → ⊥
 no_valid e = cc
 
-valid_exactly : (k : ℕ) (L : Language) (verdict : Verdict) → IsLeastOf k (outside L) verdict.counterexample → (status_of_verdict verdict ≡ Valid) ↔ HasEvery k L
-valid_exactly k L verdict is = by verdict.counterexample is
+verdict_exactly : (k : ℕ) (L : Language) (verdict : Verdict) → IsLeastOf k (outside L) verdict.counterexample
+    → ((status_of_verdict verdict ≡ Valid) ↔ HasEvery k L) × ((status_of_verdict verdict ≡ NotValid) ↔ (HasEvery k L → ⊥))
+verdict_exactly k L verdict is = by verdict.counterexample is
   where
     of : Option Word → Status
     of found = status_of_verdict (record { counterexample = found; example = None })
 
-    by : (found : Option Word) → IsLeastOf k (outside L) found → (of found ≡ Valid) ↔ HasEvery k L
-    by None none = (λ valid word behaves. twice_denied (L word) (none word behaves), λ every. refl)
-    by (Some word) least = (λ valid. absurd (no_valid valid), λ every. absurd (denied_or_so (L word) least.member (every word least.behaviour)))
-
-not_valid_exactly : (k : ℕ) (L : Language) (verdict : Verdict) → IsLeastOf k (outside L) verdict.counterexample
-    → (status_of_verdict verdict ≡ NotValid) ↔ (HasEvery k L → ⊥)
-not_valid_exactly k L verdict is = by verdict.counterexample is
-  where
-    of : Option Word → Status
-    of found = status_of_verdict (record { counterexample = found; example = None })
-
-    by : (found : Option Word) → IsLeastOf k (outside L) found → (of found ≡ NotValid) ↔ (HasEvery k L → ⊥)
-    by None none = (λ broken. absurd (no_valid (sym broken)), λ some. absurd (some (λ word behaves. twice_denied (L word) (none word behaves))))
-    by (Some word) least = (λ broken every. denied_or_so (L word) least.member (every word least.behaviour), λ some. refl)
+    by : (found : Option Word) → IsLeastOf k (outside L) found
+        → ((of found ≡ Valid) ↔ HasEvery k L) × ((of found ≡ NotValid) ↔ (HasEvery k L → ⊥))
+    by None none =
+        let every : HasEvery k L = λ word behaves. twice_denied (L word) (none word behaves) in
+        ((λ valid. every, λ every. refl), (λ broken. absurd (no_valid (sym broken)), λ some. absurd (some every)))
+    by (Some word) least =
+        let broken : HasEvery k L → ⊥ = λ every. false≢true (sym (ap not (every word least.behaviour)) ∙ least.member) in
+        ((λ valid. absurd (no_valid valid), λ every. absurd (broken every)), (λ same. broken, λ some. refl))
 
 -- ---- variables
 
@@ -73,8 +64,7 @@ module _ (fewest : AutomatonHasFewestStates) where
       let k = length file.variables in
       let says = is.says in
       let automaton = says.says_automaton in
-      let valid = valid_exactly k (models file) is.verdict is.is_verdict.counterexample in
-      let not_valid = not_valid_exactly k (models file) is.verdict is.is_verdict.counterexample in
+      let (valid, not_valid) = verdict_exactly k (models file) is.verdict is.is_verdict.counterexample in
       record {
         verdict = is.verdict;
         automaton = automaton.automaton;

@@ -3,7 +3,7 @@ use Rattle.dcv_cli.proofs.Common.{◌≡◌, ◌≢◌, ◌⊎◌, inl, inr, ref
 use Rattle.dcv_cli.proofs.Common.{subst, arith, IsSomeAnd, is_none, slice_get, if◌then◌else◌, option_map, true≢false, PlainFile, models}
 use Rattle.dcv_cli.proofs.Common.{OneVerdict, Verdict, ReadFault, ReadMemory, SpellsOne, core_of_file, PlainStep, fault_of_file, ScopeFault}
 use Rattle.dcv_cli.proofs.Common.{ScopeMemory, Limits, TooManyStates, TooManyNodes, IsOver, WithinExcludesOver, Excess, States, Nodes, Over}
-use Rattle.dcv_cli.proofs.Common.{Refusal, Budget, Product, Valid, NotValid, Usage, StatusBudget, OutOfMemory, steps_of_file, kind_of}
+use Rattle.dcv_cli.proofs.Common.{Refusal, Budget, Product, Valid, NotValid, Usage, StatusBudget, steps_of_file, kind_of}
 use Rattle.dcv_cli.proofs.Common.{limit_of, IsFirstOver, IsBudgeted, OverBudget, WithinBudget, OneAutomaton, Kind as ReportKind, IsReport}
 use Rattle.dcv_cli.proofs.Common.{IsRefused, TooLong, Faulty, HasNoCore, IsFormulaFile, OnText, Refused, Read, Texts, Outcome, refused}
 use Rattle.dcv_cli.proofs.Common.{Agrees, message_of, only, status_of, refusal_of_reading, refusal_of_scope, Which, Only, First, Second}
@@ -36,22 +36,16 @@ use Rattle.dcv_cli.specs.Stuck.{stuck_outcome}
 no_usage_budget : Usage ≢ StatusBudget
 no_usage_budget e = cc
 
-no_formula_budget : Formula ≢ StatusBudget
-no_formula_budget e = cc
-
-no_memory_budget : OutOfMemory ≢ StatusBudget
-no_memory_budget e = cc
-
 reading_is_formula : (fault : ReadFault) → status_of (refusal_of_reading fault) ≢ StatusBudget
-reading_is_formula ReadMemory = no_memory_budget
-reading_is_formula _ = no_formula_budget
+reading_is_formula ReadMemory e = cc
+reading_is_formula _ e = cc
 
 scope_is_formula : (fault : ScopeFault) → status_of (refusal_of_scope fault) ≢ StatusBudget
-scope_is_formula ScopeMemory = no_memory_budget
-scope_is_formula _ = no_formula_budget
+scope_is_formula ScopeMemory e = cc
+scope_is_formula _ e = cc
 
 refused_is_formula : (text : List ℕ) (refusal : Refusal) → IsRefused text refusal → status_of refusal ≢ StatusBudget
-refused_is_formula text refusal (TooLong long e) over = no_formula_budget (sym (ap status_of e) ∙ over)
+refused_is_formula text refusal (TooLong long e) over = let wrong : Formula ≡ StatusBudget = sym (ap status_of e) ∙ over in cc
 refused_is_formula text refusal (Faulty short fault is e) over = reading_is_formula fault (sym (ap status_of e) ∙ over)
 refused_is_formula text refusal (HasNoCore file is fault has e) over = scope_is_formula fault (sym (ap status_of e) ∙ over)
 
@@ -65,11 +59,7 @@ answer_is_no_refusal verdict e = by (is_none verdict.counterexample) e
 same_or_other : (one other : Excess) → (one ≡ other) ⊎ (one ≢ other)
 same_or_other States States = inl refl
 same_or_other Nodes Nodes = inl refl
-same_or_other States Nodes = inr (λ e. cc)
-same_or_other Nodes States = inr (λ e. cc)
-
-one_some : (first second : ℕ) → Some first ≡ Some second → first ≡ second
-one_some first second e = cc
+same_or_other _ _ = inr (λ e. cc)
 
 module _ (one_tree : SpellsOne) (one_fault : FaultIsUnique) (one_verdict : OneVerdict) (one_step : OneStepIsOver) (none_over : WithinExcludesOver) (one_list : OneListOfCounts) (one_automaton : OneAutomaton) (one_automaton_file : OneFile)
     (one_automaton_text : OneAutomatonText) (one_answer : OneAnswer) (one_comparison : OneComparison) (subsets : AreSubsets) (one_trace_verdict : OneTraceVerdict)
@@ -115,9 +105,10 @@ module _ (one_tree : SpellsOne) (one_fault : FaultIsUnique) (one_verdict : OneVe
 
   one_place : (limits : Limits) (file : PlainFile) (over another : Over) → IsFirstOver limits file over → IsFirstOver limits file another → over.at ≡ another.at
   one_place limits file over another is is' =
-      one_some over.at another.at
-      (sym is.begins ∙ ap (λ number. option_map (λ (step : PlainStep). step.span.start) (slice_get (steps_of_file file) number)) (one_first limits file over another is is')
-      ∙ is'.begins)
+      let same : Some over.at ≡ Some another.at =
+      sym is.begins
+      ∙ ap (λ number. option_map (λ (step : PlainStep). step.span.start) (slice_get (steps_of_file file) number))
+      (one_first limits file over another is is') ∙ is'.begins in cc
 
   -- what there is too much of decides what is said of it
   one_excess : (limits : Limits) (file : PlainFile) (over another : Over) → IsFirstOver limits file over → IsFirstOver limits file another

@@ -1,10 +1,11 @@
 -- One outcome at most, and some, is right for a replay of files that are held.
-use Rattle.dcv_cli.proofs.Common.{◌≡◌, ◌⊎◌, inl, inr, refl, ℕ, ◌≤◌, Bool, true, false, List, [], length, Option, None, Some, sym, ap, ◌∙◌}
-use Rattle.dcv_cli.proofs.Common.{subst, arith, nat_tests, IsSomeAnd, nat_le, Subset, InLustre, InC, ObsFault}
+use Rattle.dcv_cli.proofs.Common.{◌≡◌, ◌⊎◌, inl, inr, refl, ℕ, ◌≤◌, List, [], length, Option, None, Some, sym, ap, ◌∙◌}
+use Rattle.dcv_cli.proofs.Common.{subst, arith, IsSomeAnd, Subset, InLustre, InC, ObsFault}
 use Rattle.dcv_cli.proofs.Common.{OneTraceVerdict as OneVerdict, SomeVerdict, OneTextOfAnswers as OneText, GoodLinesAreAnswered, Observer}
 use Rattle.dcv_cli.proofs.Common.{width_of, AreAnswers, good_letters, Refusal, Only, IsFaultIn, IsRefusedObserver, IsObserverText}
 use Rattle.dcv_cli.proofs.Common.{OnObserver, Outcome, Agrees, refused, most_observer_bytes, refusal_of_observer, IsReplay, fault_of_trace}
 use Rattle.dcv_cli.proofs.Common.{status_of_trace, message_of_trace}
+use Rattle.std.proofs.lemmas.Bool.{cases_lt}
 use Rattle.dcv_c.specs.Laws as c
 use Rattle.dcv_c.specs.Placed.{unit_of}
 use Rattle.dcv_lustre.specs.Laws as lustre
@@ -118,7 +119,7 @@ module _ (some_node : lustre.SomeReading) (some_unit : c.SomeReading) (some_verd
   ]
 
   pub some_replay : (subset : Subset) (text trace : List ℕ) → (outcome : Outcome) × OnObserver subset text (λ one. IsReplay one trace) outcome
-  some_replay subset text trace = by (nat_le (length text) most_observer_bytes) refl where
-    by : (fits : Bool) → nat_le (length text) most_observer_bytes ≡ fits → (outcome : Outcome) × OnObserver subset text (λ one. IsReplay one trace) outcome
-    by true is = some_on_short subset text trace (grind (arith, nat_tests))
-    by false is = (refused (ObserverRefusal Length) Only, Refused (ObserverRefusal Length) (TooLong (grind (arith, nat_tests)) refl) refl)
+  some_replay subset text trace = elim (cases_lt most_observer_bytes (length text)) [
+    | inl long ↦ (refused (ObserverRefusal Length) Only, Refused (ObserverRefusal Length) (TooLong long refl) refl)
+    | inr short ↦ some_on_short subset text trace short
+  ]

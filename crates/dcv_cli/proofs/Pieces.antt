@@ -1,12 +1,12 @@
 -- A front of a later piece, after whole earlier ones, is a front of all of them.
 use Rattle.dcv_cli.proofs.Common.{◌≡◌, ℕ, suc, ◌<◌, List, ◌++◌, codes, append_assoc, length, get_or, take, drop, Option, sym, ap, ◌∙◌}
 use Rattle.dcv_cli.proofs.Common.{subst, OnOk, OnErr, ⊤, Result, Ok, Err, refl, Failed, line, message_of, Which, Only, First, Second}
-use Rattle.dcv_cli.proofs.Common.{flat_map, ◌≤◌, arith, length-append, Appends, AppendsPrefix, AppendsStrictPrefix, strict_is_prefix}
+use Rattle.dcv_cli.proofs.Common.{flat_map, Appends, AppendsPrefix, AppendsStrictPrefix, strict_is_prefix}
 use Rattle.std.specs.Borrow.{Bor}
 use Rattle.dcv_cli.specs.Refusal.{words_of, ended, end_of}
 use Rattle.dcv_cli.specs.declared.refused.Refused.{Refused}
 use Rattle.std.proofs.lemmas.Grind.{flat_map-append}
-use Rattle.std.proofs.lemmas.List.{take-append-drop, take-append-le}
+use Rattle.std.proofs.lemmas.List.{take-append-drop}
 use Rattle.std.proofs.Math.Seq.{drop-cons}
 use Rattle.dcv_io.specs.Written.{appended}
 use Rattle.dcv_io.proofs.Appending.{appends_further, appends_less, appended-appended}
@@ -29,25 +29,7 @@ front_of_pieces old mid new pieces i d within whole part =
     (strict_is_prefix old new _ (appends_further old mid new (joined (take i pieces)) ((get_or pieces i d).now ++ joined (drop (suc i) pieces)) whole
     (appends_less mid new (get_or pieces i d).now (joined (drop (suc i) pieces)) part)))
 
--- ---- the line of a step that is over the limits
-
--- pieces one after another, and an end after the last, however they are put together
-pub in_any_order : (word limit at step end : List ℕ)
-    → codes "budget " ++ (word ++ (codes " " ++ (limit ++ (codes " at " ++ (at ++ (codes " step " ++ (step ++ end)))))))
-    ≡ (codes "budget " ++ word ++ codes " " ++ limit ++ codes " at " ++ at ++ codes " step " ++ step) ++ end
-in_any_order word limit at step end =
-    let budget : List ℕ = codes "budget " in
-    let one = budget ++ word in
-    let two = one ++ codes " " in
-    let three = two ++ limit in
-    let four = three ++ codes " at " in
-    let five = four ++ at in
-    let six = five ++ codes " step " in
-    sym (append_assoc six step end ∙ append_assoc five (codes " step ") (step ++ end) ∙ append_assoc four at (codes " step " ++ (step ++ end))
-    ∙ append_assoc three (codes " at ") (at ++ (codes " step " ++ (step ++ end)))
-    ∙ append_assoc two limit (codes " at " ++ (at ++ (codes " step " ++ (step ++ end))))
-    ∙ append_assoc one (codes " ") (limit ++ (codes " at " ++ (at ++ (codes " step " ++ (step ++ end)))))
-    ∙ append_assoc budget word (codes " " ++ (limit ++ (codes " at " ++ (at ++ (codes " step " ++ (step ++ end)))))))
+-- ---- pieces one after another
 
 pub five_pieces : (a b c d e : List ℕ) → a ++ (b ++ (c ++ (d ++ e))) ≡ (a ++ b ++ c ++ d) ++ e
 five_pieces a b c d e = sym (append_assoc (a ++ b ++ c) d e ∙ append_assoc (a ++ b) c (d ++ e) ∙ append_assoc a b (c ++ (d ++ e)))
@@ -82,14 +64,3 @@ module _ (old mid new : Option (List ℕ)) (refused : Refused) (end : List ℕ) 
       by (Err failed) part =
           subst (λ (bytes : List ℕ). AppendsPrefix old new bytes) whole
           (strict_is_prefix old new _ (appends_further old mid new (words_of refused.refusal) end words part))
-
--- a front of the words is a front of the line
-pub words_begun : (old new : Option (List ℕ)) (refused : Refused) → AppendsPrefix old new (words_of refused.refusal) → AppendsPrefix old new (message_of refused)
-words_begun old new refused part =
-    let words = words_of refused.refusal in
-    let fits : part.0 ≤ length words = part.1 in
-    subst (λ (bytes : List ℕ). AppendsPrefix old new bytes) (ends_line refused) (
-      part.0,
-      omega (arith, fits, length-append words (end_of refused.which)),
-      subst (λ (bytes : List ℕ). Appends old new bytes) (sym (take-append-le part.0 words (end_of refused.which) fits)) part.2,
-    )

@@ -2,8 +2,8 @@
 --     SomeReport         each formula file has a right report of each kind, or a step that is the first over the limits
 --     SomeSynthesis      each formula file has a right answer where a controller is asked for
 --     some_outcome       with both, all words have a right outcome
-use Rattle.dcv_cli.proofs.Common.{◌≡◌, ◌⊎◌, inl, inr, ℕ, ◌≤◌, Bool, true, false, List, [], ◌∷◌, length, Option, None, Some, refl, sym}
-use Rattle.dcv_cli.proofs.Common.{subst, ◌∙◌, arith, nat_tests, IsSomeAnd, nat_le, true≢false, PlainFile, AutomatonFile, HasForm}
+use Rattle.dcv_cli.proofs.Common.{◌≡◌, ◌⊎◌, inl, inr, ℕ, ◌≤◌, List, [], ◌∷◌, length, Option, None, Some, refl, sym}
+use Rattle.dcv_cli.proofs.Common.{subst, ◌∙◌, IsSomeAnd, true≢false, PlainFile, AutomatonFile, HasForm}
 use Rattle.dcv_cli.proofs.Common.{MachineAcceptsStep, HasGoodWords, IsCertified, Answer, Minimal, Access, Pair, NoneWhereIncluded}
 use Rattle.dcv_cli.proofs.Common.{ComplementIsCanonical, line, WordLaws, Subset, Version, SomeVerdict, GoodLinesAreAnswered, fault_of_file}
 use Rattle.dcv_cli.proofs.Common.{WordsAreModels, ScopeFault, Refusal, Formula, Syntax, Usage, Done, IsRefusedAutomaton, HasNoForm}
@@ -14,6 +14,7 @@ use Rattle.dcv_cli.proofs.Common.{most_automaton_bytes, refusal_of_reading, refu
 use Rattle.dcv_cli.proofs.Common.{Request, Report, Certify, Convert, Implies, Stuck, Synth, Replay, Sweep, AreInRange, IsTaken, request_of}
 use Rattle.dcv_cli.proofs.Common.{AsksFor, Fulfils, IsRight, Misused, Fulfilled, IsStuckReport, IsSynthesised}
 use Rattle.std.specs.Prelude.{IsSome}
+use Rattle.std.proofs.lemmas.Bool.{cases_lt}
 use Rattle.std.proofs.lemmas.List.Elements.{All-head, recursion_from_All}
 use Rattle.dcv_automaton_text.specs.Rules.{first_broken, judged_words}
 use Rattle.dcv_automaton_text.specs.Spelled.{spelled}
@@ -59,12 +60,9 @@ module _ (some_reading : SomeReading) where
         | inr read ↦ some_on_sentence text read.0 (record { fits = short; no_fault = read.2; spelled = read.1 }) (fault_of_file read.0) refl
       ]
 
-  some_on_text : (text : List ℕ) (fits : Bool) → nat_le (length text) most_bytes ≡ fits → RefusedOrFile text
-  some_on_text text true is = some_on_short text (grind (arith, nat_tests))
-  some_on_text text false is = inl (Formula Length, TooLong (grind (arith, nat_tests)) refl)
-
   refused_or_file : (text : List ℕ) → RefusedOrFile text
-  refused_or_file text = some_on_text text (nat_le (length text) most_bytes) refl
+  refused_or_file text =
+      elim (cases_lt most_bytes (length text)) [ inl long ↦ inl (Formula Length, TooLong long refl) | inr short ↦ some_on_short text short ]
 
 -- ---- texts of automata
 
@@ -84,12 +82,11 @@ automaton_on_short text short = elim (some_form text) [
   | inr read ↦ kept_or_broken text read.0 short read.1 (first_broken 0 (judged_words read.0)) refl
 ]
 
-automaton_on_text : (text : List ℕ) (fits : Bool) → nat_le (length text) most_automaton_bytes ≡ fits → RefusedOrAutomaton text
-automaton_on_text text true is = automaton_on_short text (grind (arith, nat_tests))
-automaton_on_text text false is = inl (AutomatonRefusal AutomatonLength, TooLongAutomaton (grind (arith, nat_tests)) refl)
-
 refused_or_automaton : (text : List ℕ) → RefusedOrAutomaton text
-refused_or_automaton text = automaton_on_text text (nat_le (length text) most_automaton_bytes) refl
+refused_or_automaton text = elim (cases_lt most_automaton_bytes (length text)) [
+  | inl long ↦ inl (AutomatonRefusal AutomatonLength, TooLongAutomaton long refl)
+  | inr short ↦ automaton_on_short text short
+]
 
 -- what is right for its file is right for the text
 on_automaton : (RightFor : AutomatonFile → Outcome → Type 0) (text : List ℕ) → ((file : AutomatonFile) → IsAutomatonText text file → (outcome : Outcome) × RightFor file outcome)
@@ -157,45 +154,6 @@ module _ (some_reading : SomeReading) (reports : SomeReport) (syntheses : SomeSy
     | inr read ↦ let found = right read.0 read.1 in (found.0, Read read.0 read.1 found.1)
   ]
 
-  report_held : (kind : Kind) (limits : Limits) (name : List ℕ) (held : Texts) → AreInRange limits → IsSome (held 0 name)
-      → (outcome : Outcome) × Fulfils (Report kind name limits) held outcome
-  report_held kind limits name held range there =
-      held_under (λ text. OnText text Only (IsBudgeted limits Only (IsReport kind limits))) (held 0) name there
-      (λ text. on_text Only (IsBudgeted limits Only (IsReport kind limits)) text (reports kind limits range text))
-
-  stuck_held : (name : List ℕ) (limits : Limits) (held : Texts) → IsSome (held 0 name)
-      → (outcome : Outcome) × Fulfils (Stuck name limits) held outcome
-  stuck_held name limits held there =
-      held_under (λ text. OnText text Only (IsBudgeted limits Only IsStuckReport)) (held 0) name there
-      (λ text. on_text Only (IsBudgeted limits Only IsStuckReport) text
-      (λ file formula. some_stuck_report goes_on laws accept models_are limits file formula.has_core))
-
-  synth_held : (name : List ℕ) (inputs : ℕ) (limits : Limits) (held : Texts) → AreInputsInRange inputs limits → IsSome (held 0 name)
-      → (outcome : Outcome) × Fulfils (Synth name inputs limits) held outcome
-  synth_held name inputs limits held range there =
-      held_under (λ text. OnText text Only (IsSynthesised inputs limits)) (held 0) name there
-      (λ text. on_text Only (IsSynthesised inputs limits) text (syntheses inputs limits range text))
-
-  -- two files
-  implies_held : (first second : List ℕ) (limits : Limits) (held : Texts) → IsSome (held 0 first) → IsSome (held 1 second)
-      → (outcome : Outcome) × Fulfils (Implies first second limits) held outcome
-  implies_held first second limits held there other =
-      held_under (λ text. OnText text First (λ one. OnHeld (held 1) second (λ other_text. OnText other_text Second (IsCompared limits one)))) (held 0) first there
-      (λ text. on_text First (λ one. OnHeld (held 1) second (λ other_text. OnText other_text Second (IsCompared limits one))) text
-      (λ one formula. held_under (λ other_text. OnText other_text Second (IsCompared limits one)) (held 1) second other
-      (λ other_text. on_text Second (IsCompared limits one) other_text
-      (λ file other_formula. some_comparison laws accept outside_is models_are none_included limits one file formula.has_core other_formula.has_core))))
-
-  -- ---- the others
-
-  certify_held : (name : List ℕ) (held : Texts) → IsSome (held 0 name) → (outcome : Outcome) × Fulfils (Certify name) held outcome
-  certify_held name held there =
-      held_under (λ text. OnAutomaton text IsCertificate) (held 0) name there (λ text. on_automaton IsCertificate text (some_certificate fewest reached text))
-
-  convert_held : (name : List ℕ) (to : Version) (held : Texts) → IsSome (held 0 name) → (outcome : Outcome) × Fulfils (Convert name to) held outcome
-  convert_held name to held there =
-      held_under (λ text. OnAutomaton text (IsConverted to)) (held 0) name there (λ text. on_automaton (IsConverted to) text (λ file read. some_conversion to file))
-
   replay_held : (subset : Subset) (observer trace : List ℕ) (held : Texts) → IsSome (held 0 observer) → IsSome (held 1 trace)
       → (outcome : Outcome) × Fulfils (Replay subset observer trace) held outcome
   replay_held subset observer trace held there other = by (held 0 observer) (held 1 trace) there other
@@ -208,15 +166,35 @@ module _ (some_reading : SomeReading) (reports : SomeReport) (syntheses : SomeSy
 
   some_for_request : (held : Texts) (request : Request) → IsInRange request → ((time : ℕ) → All (λ name. IsSome (held time name)) (files_of request))
       → (outcome : Outcome) × Fulfils request held outcome
-  some_for_request held (Report kind name limits) range there = report_held kind limits name held range (All-head (λ n. IsSome (held 0 n)) name [] (there 0))
-  some_for_request held (Certify name) range there = certify_held name held (All-head (λ n. IsSome (held 0 n)) name [] (there 0))
-  some_for_request held (Convert name to) range there = convert_held name to held (All-head (λ n. IsSome (held 0 n)) name [] (there 0))
+  some_for_request held (Report kind name limits) range there =
+      held_under (λ text. OnText text Only (IsBudgeted limits Only (IsReport kind limits))) (held 0) name
+      (All-head (λ n. IsSome (held 0 n)) name [] (there 0))
+      (λ text. on_text Only (IsBudgeted limits Only (IsReport kind limits)) text (reports kind limits range text))
+  some_for_request held (Certify name) range there =
+      held_under (λ text. OnAutomaton text IsCertificate) (held 0) name (All-head (λ n. IsSome (held 0 n)) name [] (there 0))
+      (λ text. on_automaton IsCertificate text (some_certificate fewest reached text))
+  some_for_request held (Convert name to) range there =
+      held_under (λ text. OnAutomaton text (IsConverted to)) (held 0) name (All-head (λ n. IsSome (held 0 n)) name [] (there 0))
+      (λ text. on_automaton (IsConverted to) text (λ file read. some_conversion to file))
   some_for_request held (Implies first second limits) range there =
-      let one = recursion_from_All (λ n. IsSome (held 0 n)) (first ∷ second ∷ []) (there 0) in
+      let here = recursion_from_All (λ n. IsSome (held 0 n)) (first ∷ second ∷ []) (there 0) in
       let other = recursion_from_All (λ n. IsSome (held 1 n)) (first ∷ second ∷ []) (there 1) in
-      implies_held first second limits held one.0 other.1.0
-  some_for_request held (Stuck name limits) range there = stuck_held name limits held (All-head (λ n. IsSome (held 0 n)) name [] (there 0))
-  some_for_request held (Synth name inputs limits) range there = synth_held name inputs limits held range (All-head (λ n. IsSome (held 0 n)) name [] (there 0))
+      held_under (λ text. OnText text First (λ one. OnHeld (held 1) second (λ other_text. OnText other_text Second (IsCompared limits one))))
+      (held 0) first here.0
+      (λ text. on_text First (λ one. OnHeld (held 1) second (λ other_text. OnText other_text Second (IsCompared limits one))) text
+      (λ one formula. held_under (λ other_text. OnText other_text Second (IsCompared limits one)) (held 1) second other.1.0
+      (λ other_text. on_text Second (IsCompared limits one) other_text
+      (λ file other_formula.
+      some_comparison laws accept outside_is models_are none_included limits one file formula.has_core other_formula.has_core))))
+  some_for_request held (Stuck name limits) range there =
+      held_under (λ text. OnText text Only (IsBudgeted limits Only IsStuckReport)) (held 0) name
+      (All-head (λ n. IsSome (held 0 n)) name [] (there 0))
+      (λ text. on_text Only (IsBudgeted limits Only IsStuckReport) text
+      (λ file formula. some_stuck_report goes_on laws accept models_are limits file formula.has_core))
+  some_for_request held (Synth name inputs limits) range there =
+      held_under (λ text. OnText text Only (IsSynthesised inputs limits)) (held 0) name
+      (All-head (λ n. IsSome (held 0 n)) name [] (there 0))
+      (λ text. on_text Only (IsSynthesised inputs limits) text (syntheses inputs limits range text))
   some_for_request held (Replay subset observer trace) range there =
       let one = recursion_from_All (λ n. IsSome (held 0 n)) (observer ∷ trace ∷ []) (there 0) in
       let other = recursion_from_All (λ n. IsSome (held 1 n)) (observer ∷ trace ∷ []) (there 1) in

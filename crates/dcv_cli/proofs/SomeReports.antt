@@ -3,12 +3,12 @@
 --     over_or_within       the outcome that names the step, or all steps are within the limits
 --     some_sweep           the summary of formulas that are drawn
 --     some_comparison      what is said of two files, whether they are within or not
-use Rattle.dcv_cli.proofs.Common.{◌≡◌, ◌⊎◌, ◌↔◌, inl, inr, ℕ, Bool, true, false, not, List, [], ◌∷◌, length, Option, None, Some, refl, sym}
-use Rattle.dcv_cli.proofs.Common.{ap, ◌∙◌, subst, is_none, is_some, IsTrue, option_map, false≢true, length-map, Word, accepts, IsCanonical}
+use Rattle.dcv_cli.proofs.Common.{◌≡◌, ◌⊎◌, inl, inr, ℕ, Bool, true, false, List, [], ◌∷◌, length, Option, None, refl, sym}
+use Rattle.dcv_cli.proofs.Common.{ap, subst, is_none, is_some, option_map, Word, accepts, IsCanonical}
 use Rattle.dcv_cli.proofs.Common.{Language, HaveSameBehaviours, ComplementIsCanonical, Table, automaton_of, IsLeastOf}
 use Rattle.dcv_cli.proofs.Common.{canonical_for_same_behaviours, WordLaws, PlainFile, models, CoreTree, words_of, PlainStep, core_of_file}
 use Rattle.dcv_cli.proofs.Common.{fault_of_file, fault_of_goal, WordsAreModels, fault_of_names, no_bound_shift, TooManyStates, TooManyNodes}
-use Rattle.dcv_cli.proofs.Common.{Limits, IsWithinBudget, IsOver, MachineAcceptsStep, difference, IsIncluded, NoneWhereIncluded}
+use Rattle.dcv_cli.proofs.Common.{Limits, IsWithinBudget, IsOver, MachineAcceptsStep, difference, NoneWhereIncluded}
 use Rattle.dcv_cli.proofs.Common.{summary_text, texts_of, Excess, States, Nodes, Over, Declarations, Budget, Formula, Product, Which, Only}
 use Rattle.dcv_cli.proofs.Common.{First, Second, Done, steps_of_file, kind_of, limit_of, IsFirstOver, IsBudgeted, OverBudget, WithinBudget}
 use Rattle.dcv_cli.proofs.Common.{compared, have_same_texts, IsDifference, OverProduct, WithinProduct, IsCompared, Undeclared, Declared}
@@ -27,7 +27,7 @@ use Rattle.dcv_implies.specs.Comparison.{AreTablesOf, product}
 use Rattle.dcv_sweep.specs.Findings.{IsFinding, summary_of}
 use Rattle.dcv_sweep.specs.declared.findings.Finding.{Finding}
 use Rattle.dcv_sweep.specs.declared.findings.Finding.TheVariants.{Over as FoundOver, Within as FoundWithin}
-use Rattle.dcv_cli.proofs.Comparisons.{names_same, names_differ}
+use Rattle.dcv_cli.proofs.Comparisons.{count_same, names_same, names_differ, none_is}
 use Rattle.dcv_quotient.proofs.RowLimits.{within_or_exceeds, table_of_row}
 use Rattle.dcv_existence.proofs.SomeBudgets.{some_budget, table_of_core}
 use Rattle.dcv_quotient.proofs.SomeVerdicts.{some_least}
@@ -127,17 +127,6 @@ module _ (laws : WordLaws) (accept : MachineAcceptsStep) where
       -- ---- two files
 
       module _ (none_included : NoneWhereIncluded) where
-        included_where_none : (k : ℕ) (L M : Language) (least : Option Word) → IsLeastOf k (difference L M) least → (least ≡ None) ↔ IsIncluded k L M
-        included_where_none k L M None is = ((λ same. (none_included k L M).0 is), (λ included. refl))
-        included_where_none k L M (Some word) is = (
-          (λ same. absurd (let wrong : Some word ≡ None = same in cc)),
-          (λ included. absurd (not_both (difference L M word) is.member ((none_included k L M).1 included word is.behaviour))),
-        )
-          where
-            not_both : (b : Bool) → IsTrue b → IsTrue (not b) → ⊥
-            not_both true is other = false≢true other
-            not_both false is other = false≢true is
-
         module _ (limits : Limits) (one other : PlainFile) (k : ℕ) (L M : Language) (first second : Table) (tables : AreTablesOf k L M first second) where
           product_accepts : HaveSameBehaviours k (accepts (and_machine k (automaton_of first) (automaton_of second)).automaton) (difference L M)
           product_accepts =
@@ -157,8 +146,7 @@ module _ (laws : WordLaws) (accept : MachineAcceptsStep) where
             let k = length one.variables in
             let (first, (first_access, first_is)) = table_of_file models_are limits one here within in
             let (table, (access, canonical)) = table_of_file models_are limits other there within_other in
-            let width : length other.variables ≡ length one.variables =
-            sym (length-map other.variables (λ (name : _). name.text)) ∙ ap length (sym same) ∙ length-map one.variables (λ (name : _). name.text) in
+            let width = count_same other.variables one.variables (sym same) in
             let second_is = outside_is k (models other) table access (subst (λ n. IsCanonical n (models other) table access) width canonical) in
             let second = complement access table in
             let tables : AreTablesOf k (models one) (models other) first second = record { first_access = first_access; first_is = first_is; second_access = access; second_is = second_is } in
@@ -172,7 +160,7 @@ module _ (laws : WordLaws) (accept : MachineAcceptsStep) where
                   let (least, is) = least_outside limits one other k (models one) (models other) first second tables found.0 found.1.0 found.1.1 in (
                     compared least,
                     WithinProduct (record { first = first; second = second; tables = tables; within = fits })
-                        (record { least = least; is_least = is; included = included_where_none k (models one) (models other) least is; says = refl }),
+                        (record { least = least; is_least = is; included = none_is none_included k (models one) (models other) least is; says = refl }),
                   )
             ]
 

@@ -1,6 +1,6 @@
 -- What a text says of a set: no two texts say the same, but for the suffixes of an automaton and what the steps took, and it is said of each
 -- set with the same behaviours.
-use Rattle.dcv_cli.proofs.Common.{◌≡◌, ◌⊎◌, ℕ, List, [], ◌++◌, Some, inl, inr, sym, ap, ◌∙◌, subst, codes, append_assoc, IsFalse}
+use Rattle.dcv_cli.proofs.Common.{◌≡◌, ◌⊎◌, ℕ, List, [], ◌++◌, Some, inl, inr, refl, sym, ap, ◌∙◌, subst, codes, append_assoc, IsFalse}
 use Rattle.dcv_cli.proofs.Common.{append-nil, true≢false, Language, HaveSameBehaviours, Verdict, verdict_text, AutomatonFile, unit_of}
 use Rattle.dcv_cli.proofs.Common.{node_of, Count, step_part_of, OneAutomaton, AutomatonOfSameBehaviours, FileOfSameBehaviours, FileSaysNode}
 use Rattle.dcv_cli.proofs.Common.{FileSaysUnit, SaysNode, SaysUnit, all_text, Kind, Check, Automaton, Lustre, C, All, SaysAutomaton, Says}
@@ -8,7 +8,7 @@ use Rattle.dcv_cli.proofs.Common.{SaysAll}
 use Rattle.dcv_automaton_text.specs.Spelled.{spelled}
 use Rattle.dcv_c.specs.Layout as c
 use Rattle.dcv_lustre.specs.Layout as lustre
-use Rattle.dcv_print.specs.Automaton.{IsAutomatonOf, AreSameUpToAccess, AreSameButForSuffixes, DifferInSuffixes, AgreeUpToAccess}
+use Rattle.dcv_print.specs.Automaton.{IsAutomatonOf, AreSameUpToAccess, AreSameButForSuffixes, AreSpelledBy, DifferInSuffixes, AgreeUpToAccess}
 use Rattle.dcv_print.specs.Laws.{OneFile}
 use Rattle.dcv_cli.specs.Outcome.{has_automaton}
 
@@ -27,16 +27,6 @@ around_automaton verdict automaton node unit =
 
 -- ---- one text
 
--- two texts are spelled by files that are alike, with the same around them
-record AreAlike (Alike : AutomatonFile → AutomatonFile → Type 0) (one other : List ℕ) : Type 0 where
-  before : List ℕ
-  behind : List ℕ
-  one_file : AutomatonFile
-  other_file : AutomatonFile
-  one_is : one ≡ before ++ (spelled one_file ++ behind)
-  other_is : other ≡ before ++ (spelled other_file ++ behind)
-  same : Alike one_file other_file
-
 module _ (one_automaton : OneAutomaton) (one_file : OneFile) (k : ℕ) (L : Language) (names : List (List ℕ)) where
   one_node : (one other : List ℕ) → SaysNode k L names one → SaysNode k L names other → one ≡ other
   one_node one other says says' =
@@ -46,11 +36,19 @@ module _ (one_automaton : OneAutomaton) (one_file : OneFile) (k : ℕ) (L : Lang
   one_unit one other says says' =
       says.says ∙ ap (λ (file : AutomatonFile). c.text_of (unit_of file)) (one_file k L names says.file says'.file says.of says'.of) ∙ sym says'.says
 
+  -- where no automaton is written they are the same
+  pub one_other_text : (v u : Verdict) (counts others : List Count) (one other : List ℕ) (kind : Kind) → v ≡ u → IsFalse (has_automaton kind) → Says kind k L names counts v one
+      → Says kind k L names others u other → one ≡ other
+  one_other_text v u counts others one other Check same none says says' = says ∙ ap verdict_text same ∙ sym says'
+  one_other_text v u counts others one other Lustre same none says says' = one_node one other says says'
+  one_other_text v u counts others one other C same none says says' = one_unit one other says says'
+  one_other_text v u counts others one other _ same none says says' = absurd (true≢false none)
+
   -- where the files of two automata are alike, whose steps took so much
   module _ (counts others : List Count) (Alike : AutomatonFile → AutomatonFile → Type 0)
       (alike : (f g : AutomatonFile) → IsAutomatonOf k L names f → IsAutomatonOf k L names g → f.steps ≡ Some (step_part_of counts)
       → g.steps ≡ Some (step_part_of others) → Alike f g) where
-    in_all : (v u : Verdict) (one other : List ℕ) → v ≡ u → SaysAll k L names counts v one → SaysAll k L names others u other → AreAlike Alike one other
+    in_all : (v u : Verdict) (one other : List ℕ) → v ≡ u → SaysAll k L names counts v one → SaysAll k L names others u other → AreSpelledBy Alike one other
     in_all v u one other same says says' =
         let first = says.says_automaton in
         let second = says'.says_automaton in
@@ -69,7 +67,7 @@ module _ (one_automaton : OneAutomaton) (one_file : OneFile) (k : ℕ) (L : Lang
           same = alike first.automaton second.automaton first.is second.is first.steps second.steps;
         }
 
-    alone : (one other : List ℕ) → SaysAutomaton k L names counts one → SaysAutomaton k L names others other → AreAlike Alike one other
+    alone : (one other : List ℕ) → SaysAutomaton k L names counts one → SaysAutomaton k L names others other → AreSpelledBy Alike one other
     alone one other says says' = record {
       before = [];
       behind = [];
@@ -81,45 +79,25 @@ module _ (one_automaton : OneAutomaton) (one_file : OneFile) (k : ℕ) (L : Lang
     }
 
     texts_alike : (v u : Verdict) (one other : List ℕ) (kind : Kind) → v ≡ u → Says kind k L names counts v one → Says kind k L names others u other
-        → (one ≡ other) ⊎ AreAlike Alike one other
-    texts_alike v u one other Check same says says' = inl (says ∙ ap verdict_text same ∙ sym says')
+        → (one ≡ other) ⊎ AreSpelledBy Alike one other
     texts_alike v u one other Automaton same says says' = inr (alone one other says says')
-    texts_alike v u one other Lustre same says says' = inl (one_node one other says says')
-    texts_alike v u one other C same says says' = inl (one_unit one other says says')
     texts_alike v u one other All same says says' = inr (in_all v u one other same says says')
+    texts_alike v u one other kind same says says' = inl (one_other_text v u counts others one other kind same refl says says')
 
   -- with the same counts
   pub one_text : (v u : Verdict) (counts others : List Count) (one other : List ℕ) (kind : Kind) → v ≡ u → counts ≡ others → Says kind k L names counts v one
       → Says kind k L names others u other → (one ≡ other) ⊎ DifferInSuffixes one other
   one_text v u counts others one other kind same alike says says' =
-      by (texts_alike counts others AreSameButForSuffixes
+      texts_alike counts others AreSameButForSuffixes
       (λ f g is is' steps steps'. record { up_to_access = one_automaton k L names f g is is'; steps = steps ∙ ap (λ counts. Some (step_part_of counts)) alike ∙ sym steps' })
-      v u one other kind same says says')
-    where
-      by : (one ≡ other) ⊎ AreAlike AreSameButForSuffixes one other → (one ≡ other) ⊎ DifferInSuffixes one other
-      by (inl e) = inl e
-      by (inr a) =
-          inr (record { before = a.before; behind = a.behind; one_file = a.one_file; other_file = a.other_file; one_is = a.one_is; other_is = a.other_is; same = a.same })
+      v u one other kind same says says'
 
   -- with any
   pub one_meaning : (v u : Verdict) (counts others : List Count) (one other : List ℕ) (kind : Kind) → v ≡ u → Says kind k L names counts v one
       → Says kind k L names others u other → (one ≡ other) ⊎ AgreeUpToAccess one other
   one_meaning v u counts others one other kind same says says' =
-      by (texts_alike counts others AreSameUpToAccess (λ f g is is' steps steps'. one_automaton k L names f g is is') v u one other kind same says says')
-    where
-      by : (one ≡ other) ⊎ AreAlike AreSameUpToAccess one other → (one ≡ other) ⊎ AgreeUpToAccess one other
-      by (inl e) = inl e
-      by (inr a) =
-          inr (record { before = a.before; behind = a.behind; one_file = a.one_file; other_file = a.other_file; one_is = a.one_is; other_is = a.other_is; same = a.same })
-
-  -- and where no automaton is written they are the same
-  pub one_other_text : (v u : Verdict) (counts others : List Count) (one other : List ℕ) (kind : Kind) → v ≡ u → IsFalse (has_automaton kind) → Says kind k L names counts v one
-      → Says kind k L names others u other → one ≡ other
-  one_other_text v u counts others one other Check same none says says' = says ∙ ap verdict_text same ∙ sym says'
-  one_other_text v u counts others one other Lustre same none says says' = one_node one other says says'
-  one_other_text v u counts others one other C same none says says' = one_unit one other says says'
-  one_other_text v u counts others one other Automaton same none says says' = absurd (true≢false none)
-  one_other_text v u counts others one other All same none says says' = absurd (true≢false none)
+      texts_alike counts others AreSameUpToAccess (λ f g is is' steps steps'. one_automaton k L names f g is is')
+      v u one other kind same says says'
 
 -- ---- sets with the same behaviours
 

@@ -34,7 +34,7 @@ use std::alloc::Global;
 /// write that automaton as an observer, and `all FILE` all four, each after a line that names it. `certify FILE` judges the words of an
 /// automaton's text, and `convert FILE --to N` writes it in version N: version 2 says what each step of the formula took, and version 1 does
 /// not. `implies FILE FILE` says whether each behaviour that satisfies the first formula satisfies the second, or writes a shortest that does
-/// not.
+/// not. `stuck FILE` writes `never stuck`, or the least behaviour that keeps to the requirement and cannot be continued.
 /// `synth FILE --inputs N` writes a controller whose outputs, the variables after the first N, satisfy the formula at each instant whatever
 /// its inputs, the first N, are; or else how the inputs are picked by which no controller does, and within how many instants.
 /// `replay-lustre OBSERVER TRACE` and `replay-c OBSERVER TRACE` write what an observer answers at each instant of a trace.

@@ -3,7 +3,7 @@ use Rattle.dcv_command.proofs.Common.{◌≡◌, ◌≤◌, ◌<◌, refl, sym, 
 use Rattle.dcv_command.proofs.Common.{arith, length, codes, find, not, is_some, ◌==◌, ◌&&◌, ◌||◌, ◌+◌, if◌then◌else◌, AllByRecursion}
 use Rattle.dcv_command.proofs.Common.{list_all, option_map_or, bytes_eq, or-true, false_from_ne_true, bytes_eq-Decides, true≢false, Rule}
 use Rattle.dcv_command.proofs.Common.{Shape, Text, long_of, accepts, arg_by_index, Unsigned, is_false, both, IsOption, has_name, Argument}
-use Rattle.dcv_command.proofs.Common.{Form, Operand, Required, WithDefault, Value, FileName, Number}
+use Rattle.dcv_command.proofs.Common.{Form, Operand, WithDefault, Value, FileName, Number}
 use Rattle.std.proofs.Common.{ne_eqb}
 use Rattle.std.specs.Prelude.{ltb}
 use Rattle.std.proofs.lemmas.Bool.{ltb-true}
@@ -23,23 +23,19 @@ parser (Number least most) = Unsigned least most
 
 abbrev pub called : Form → Text → Option Text
 called Operand id = None
-called Required id = Some id
-called (WithDefault text) id = Some id
+called _ id = Some id
 
 abbrev pub placed : Form → ℕ → Option ℕ
 placed Operand place = Some place
-placed Required place = None
-placed (WithDefault text) place = None
+placed _ place = None
 
 abbrev pub defaults_of : Form → List Text
-defaults_of Operand = []
-defaults_of Required = []
 defaults_of (WithDefault text) = text ∷ []
+defaults_of _ = []
 
 abbrev pub is_required : Form → Bool
-is_required Operand = true
-is_required Required = true
 is_required (WithDefault text) = false
+is_required _ = true
 
 abbrev pub built_rule : ℕ → Argument → Rule
 built_rule place one = record (new_rule one.id) {
@@ -55,8 +51,7 @@ built_rule place one = record (new_rule one.id) {
 
 abbrev pub next_place : Form → ℕ → ℕ
 next_place Operand place = place + 1
-next_place Required place = place
-next_place (WithDefault text) place = place
+next_place _ place = place
 
 -- with `--help` after them
 abbrev pub built_rules : List Argument → ℕ → List Rule
@@ -76,9 +71,8 @@ is_long id =
     option_map_or (λ parts. bytes_eq parts.0 id && not (is_some parts.1)) (long_of (flag id)) false && not (bytes_eq (flag id) (codes "--"))
 
 abbrev pub default_fits : Form → Value → Bool
-default_fits Operand value = true
-default_fits Required value = true
 default_fits (WithDefault text) value = accepts false (parser value) text
+default_fits _ value = true
 
 abbrev pub is_small : Value → Bool
 is_small FileName = true
@@ -121,19 +115,16 @@ has_called form place id other = not (is_some (placed form place)) && (option_ma
 
 not_called : (form : Form) (place : ℕ) (id other : Text) → bytes_eq id other ≡ false → has_called form place id other ≡ false
 not_called Operand place id other differs = refl
-not_called Required place id other differs = ap (λ same. same || false) differs
-not_called (WithDefault text) place id other differs = ap (λ same. same || false) differs
+not_called _ place id other differs = ap (λ same. same || false) differs
 
 is_called : (form : Form) (place : ℕ) (id : Text) → IsOption form → bytes_eq id id ≡ true → has_called form place id id ≡ true
 is_called Operand place id option same = absurd option
-is_called Required place id option same = ap (λ same. same || false) same
-is_called (WithDefault text) place id option same = ap (λ same. same || false) same
+is_called _ place id option same = ap (λ same. same || false) same
 
 other_place : (form : Form) (place index : ℕ) → next_place form place ≤ index
     → (place ≤ index) × (option_map_or (λ one. one == index) (placed form place) false ≡ false)
 other_place Operand place index after = (omega arith, ne_eqb place index (λ same. omega (arith, same)))
-other_place Required place index after = (after, refl)
-other_place (WithDefault text) place index after = (after, refl)
+other_place _ place index after = (after, refl)
 
 pub reaches_rest : (arguments rest : List Argument) (one : Argument) (place : ℕ) → has_name one.id rest ≡ false → Reaches arguments (one ∷ rest) place
     → Reaches arguments rest (next_place one.form place)

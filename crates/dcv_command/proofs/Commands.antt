@@ -181,7 +181,7 @@ record Reaches (left : List Command) : Type 0 where
 reaches_all : Reaches commands
 reaches_all = record { shape = λ name called. refl; request = λ name called rows. refl }
 
-turned : (one other : Text) (b : Bool) → bytes_eq one other ≡ b → bytes_eq other one ≡ b
+pub turned : (one other : Text) (b : Bool) → bytes_eq one other ≡ b → bytes_eq other one ≡ b
 turned one other true same = (bytes_eq-Decides other one).1 (sym ((bytes_eq-Decides one other).0 same))
 turned one other false differs =
     false_from_ne_true (bytes_eq other one)

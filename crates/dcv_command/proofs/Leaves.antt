@@ -5,7 +5,7 @@ use Rattle.dcv_command.proofs.Common.{Rule, Shape, Text, check_kinds, or_else, c
 use Rattle.dcv_command.proofs.Common.{finished, has_row, nothing_held, rows_after, settled, walk, walk_from}
 use Rattle.clap.specs.Faults.{defaults_fault, walk_fault}
 use Rattle.dcv_command.proofs.Rows.{AreReadable, HasDefault, HasDefaultRows, HasReadableDefaults, IsFound, found_readable, given_is_there, has_default_rows, readable_with_defaults}
-use Rattle.dcv_command.proofs.Steps.{EachKeeps, first_is_empty, last_is_empty, settled_keeps, walk_keeps}
+use Rattle.dcv_command.proofs.Steps.{Keeps, first_is_empty, last_is_empty, settled_keeps, walk_keeps}
 
 -- ---- what is required is there
 
@@ -56,7 +56,7 @@ module _ (Says : Text → Text → Type 0) where
   -- ---- after the words
 
   -- of a shape of which no use and no default leaves a row that can't be read
-  module _ (shape : Shape) (uses : EachKeeps shape.args_override_self (AreReadable Says) shape.rules)
+  module _ (shape : Shape) (uses : AllByRecursion (Keeps shape.args_override_self (AreReadable Says)) shape.rules)
       (defaults : (rows : List Row) → HasReadableDefaults Says rows shape.rules) where
     finished_found : (held : Held) → AreReadable Says (settled shape.rules held).rows → check_fault shape (finished shape.rules held) false ≡ []
         → AllByRecursion (IsFoundIfSure Says (finished shape.rules held)) shape.rules

@@ -71,8 +71,7 @@ fresh_behind done rest one apart fresh id has =
 
 abbrev with_operand : Form → Argument → List Argument → List Argument
 with_operand Operand one done = one ∷ done
-with_operand Required one done = done
-with_operand (WithDefault text) one done = done
+with_operand _ one done = done
 
 abbrev with_operands : List Argument → List Argument → List Argument
 with_operands [] done = done
@@ -102,8 +101,7 @@ operands_still (one ∷ rest) done id has = operands_still rest (with_operand on
   where
     by : (form : Form) → has_name id (with_operand form one done) ≡ true
     by Operand = ap (λ done. bytes_eq one.id id || done) has ∙ or-true (bytes_eq one.id id)
-    by Required = has
-    by (WithDefault text) = has
+    by _ = has
 
 abbrev IsOperand : Form → Type 0
 IsOperand form = IsOption form → ⊥
@@ -115,8 +113,7 @@ operands_named (one ∷ rest) done =
   where
     by : (form : Form) → IsOperand form → has_name one.id (with_operand form one done) ≡ true
     by Operand operand = ap (λ same. same || has_name one.id done) ((bytes_eq-Decides one.id one.id).1 refl)
-    by Required operand = absurd (operand tt)
-    by (WithDefault text) operand = absurd (operand tt)
+    by _ operand = absurd (operand tt)
 
 module _ (name : Text) (arguments : List Argument) (values : Values) where
   abbrev shape : Shape
@@ -156,8 +153,7 @@ module _ (name : Text) (arguments : List Argument) (values : Values) where
           runs = λ end others runs.
               more (operand_goes arguments values held done holds one is unmet (word one) name place text.0 (here (eq-eqb place place refl)) (omega (arith, few))) (next.runs end others runs);
         }
-    one_passed Required can here reaches later = later place (omega (arith, few)) reaches held done holds (rest_is_fresh done rest one fresh)
-    one_passed (WithDefault text) can here reaches later = later place (omega (arith, few)) reaches held done holds (rest_is_fresh done rest one fresh)
+    one_passed _ can here reaches later = later place (omega (arith, few)) reaches held done holds (rest_is_fresh done rest one fresh)
 
   operands_passed : (left : List Argument) (place : ℕ) → AllByRecursion (IsLookedUp arguments) left → are_distinct left ≡ true
       → AllByRecursion (λ one. IsOperand one.form → CanBeGiven one.value (values one)) left → PassesFrom left place
@@ -219,8 +215,7 @@ module _ (name : Text) (arguments : List Argument) (values : Values) where
       (λ required. has_after_defaults (built_rules arguments 1) one.id rows (is.required required), has_required rows rest (next_place one.form place) each)
 
   always_none : (has : Bool) (kinds : Kinds) → (if has || true then [] else kinds) ≡ []
-  always_none true kinds = refl
-  always_none false kinds = refl
+  always_none has kinds = ap (λ any. if any then [] else kinds) (or-true has)
 
   no_default_fault : (left : List Argument) (place : ℕ) (rows : List Row) → AllByRecursion (IsLookedUp arguments) left → defaults_fault rows (built_rules left place) ≡ []
   unfolding defaults_fault
@@ -232,10 +227,9 @@ module _ (name : Text) (arguments : List Argument) (values : Values) where
     where
       by : (form : Form) (has : Bool) → default_fits form one.value ≡ true
           → (if has || is_empty (defaults_of form) then [] else values_kinds false (parser one.value) (defaults_of form)) ≡ []
-      by Operand has fits = always_none has []
-      by Required has fits = always_none has []
       by (WithDefault text) true fits = refl
       by (WithDefault text) false fits = ap (λ fits. or_else (if fits then [] else refused_kind (parser one.value) ∷ []) []) fits
+      by _ has fits = always_none has []
 
   defaults_pass : (left : List Argument) (place : ℕ) → AllByRecursion (IsLookedUp arguments) left → list_all default_passes (built_rules left place) ≡ true
   defaults_pass [] place each = refl
@@ -245,9 +239,8 @@ module _ (name : Text) (arguments : List Argument) (values : Values) where
     where
       by : (form : Form) → default_fits form one.value ≡ true
           → (is_empty (defaults_of form) || (true && list_all (λ text. accepts false (parser one.value) text) (defaults_of form))) ≡ true
-      by Operand fits = refl
-      by Required fits = refl
       by (WithDefault text) fits = ap (λ fits. fits && true) fits
+      by _ fits = refl
 
   all_free : (left : List Argument) (place : ℕ) → list_all (λ rule. rule.is_free) (built_rules left place) ≡ true
   all_free [] place = refl
@@ -344,8 +337,7 @@ module _ (command : Command) (is : IsCommand command) (values : Values) (given :
     where
       by : (form : Form) → IsChosen form one.value (values one) (has_name one.id given) → IsOperand form → CanBeGiven one.value (values one)
       by Operand chosen operand = chosen
-      by Required chosen operand = absurd (operand tt)
-      by (WithDefault text) chosen operand = absurd (operand tt)
+      by _ chosen operand = absurd (operand tt)
 
   passed : Passed command.name arguments values (walk_from nothing_held) (operand_words values arguments) (with_operands arguments [])
   passed =
@@ -378,8 +370,7 @@ module _ (command : Command) (is : IsCommand command) (values : Values) (given :
     where
       by : (form : Form) → (IsOperand form → IsMetOperand one) → AllByRecursion IsMetOperand (with_operand form one done)
       by Operand operand = (operand (λ option. option), met)
-      by Required operand = met
-      by (WithDefault text) operand = met
+      by _ operand = met
 
   -- an option bears no operand's name
   no_operand : (one : Argument) → IsLookedUp arguments one → IsOption one.form → (done : List Argument) → AllByRecursion IsMetOperand done → has_name one.id done ≡ false
@@ -437,8 +428,6 @@ module _ (command : Command) (is : IsCommand command) (values : Values) (given :
       default : (form : Form) → IsChosen form one.value (values one) (has_name one.id given) → default_fits form one.value ≡ true
           → has_row one.id ended.holds.rows ≡ false
           → IsReadableDefault (Says (Means values) arguments) one.id (reading_of (parser one.value)) (defaults_of form)
-      default Operand chosen fits none = tt
-      default Required chosen fits none = tt
       default (WithDefault text) chosen fits none =
           record {
             text = text;
@@ -446,6 +435,7 @@ module _ (command : Command) (is : IsCommand command) (values : Values) (given :
             as_written = as_written one.value;
             says = own_says (Means values) arguments one text looked_up (fits, sym (left_out (has_name one.id given) (CanBeGiven one.value (values one)) text refl chosen none));
           }
+      default _ chosen fits none = tt
 
   listed : AskFor (command.name ∷ operand_words values arguments ++ option_words values given) (asked_with arguments command.asks values)
   listed =

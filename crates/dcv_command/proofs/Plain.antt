@@ -1,6 +1,6 @@
 -- Words that do not begin with a dash, in `clap`'s walk of a subcommand that has none below it.
 use Rattle.dcv_command.proofs.Common.{◌≡◌, refl, ap, ◌∙◌, true, false, List, ℕ, [], ◌∷◌, None, ◌==◌, ◌&&◌, bytes_eq, Rule, Shape, Text}
-use Rattle.dcv_command.proofs.Common.{or_else, long_of, short_of, Held, Step, Waiting, idle, option, positional, Walk, after_step}
+use Rattle.dcv_command.proofs.Common.{or_else, long_of, short_of, Held, Step, Waiting, idle, Walk, after_step}
 use Rattle.dcv_command.proofs.Common.{plain_word, subcommand_met, word_met, step_fault, turn_fault, word_fault, step_passes, turn_passes}
 use Rattle.clap.specs.Walk.{walked}
 use Rattle.clap.specs.Takes.{word_passes}
@@ -10,29 +10,20 @@ abbrev pub HasNoDash : Text → Type 0
 HasNoDash [] = ⊥
 HasNoDash (first ∷ rest) = (first == 45) ≡ false
 
-no_long : (word : Text) → HasNoDash word → long_of word ≡ None
-no_long [] none = absurd none
-no_long (first ∷ rest) none = rw none refl
-
-no_short : (word : Text) → HasNoDash word → short_of word ≡ None
-no_short [] none = absurd none
-no_short (first ∷ rest) none = rw none refl
-
-no_dashes : (word : Text) → HasNoDash word → bytes_eq word (45 ∷ 45 ∷ []) ≡ false
-no_dashes [] none = absurd none
-no_dashes (first ∷ rest) none = rw none refl
+no_flag : (word : Text) → HasNoDash word → (bytes_eq word (45 ∷ 45 ∷ []) ≡ false) × (long_of word ≡ None) × (short_of word ≡ None)
+no_flag [] none = absurd none
+no_flag (first ∷ rest) none = (rw none refl, rw none refl, rw none refl)
 
 none_met : (waiting : Waiting) (word : Text) → subcommand_met [] waiting word ≡ None
 none_met idle word = refl
-none_met (option id) word = refl
-none_met positional word = refl
+none_met _ word = refl
 
 -- ---- what the walk makes of it
 
 met_plain : (rules : List Rule) (waiting : Waiting) (position : ℕ) (word : Text) (held : Held) → HasNoDash word
     → word_met rules [] false waiting position word held ≡ plain_word rules waiting word held
 met_plain rules waiting position word held none =
-    rw (none_met waiting word, no_dashes word none, no_long word none, no_short word none) refl
+    let flag = no_flag word none in rw (none_met waiting word, flag.0, flag.1, flag.2) refl
 
 -- a walk that is not stopped, and reads flags
 abbrev pub going : Held → Waiting → ℕ → Walk
@@ -51,7 +42,7 @@ walked_plain rules held waiting position word none =
 -- ---- what faults there are
 
 no_word_fault : (shape : Shape) (waiting : Waiting) (word : Text) (held : Held) → HasNoDash word → word_fault shape [] false waiting word held ≡ []
-no_word_fault shape waiting word held none = rw (none_met waiting word, no_dashes word none, no_long word none, no_short word none) refl
+no_word_fault shape waiting word held none = let flag = no_flag word none in rw (none_met waiting word, flag.0, flag.1, flag.2) refl
 
 pub turn_plain : (shape : Shape) (held : Held) (waiting : Waiting) (position : ℕ) (word : Text) → HasNoDash word
     → step_fault shape position (plain_word shape.rules waiting word held).0 (plain_word shape.rules waiting word held).1 ≡ []
@@ -66,7 +57,7 @@ turn_plain shape held waiting position word none step =
 -- ---- what passes `clap`'s test
 
 plain_word_passes : (shape : Shape) (waiting : Waiting) (word : Text) (held : Held) → HasNoDash word → word_passes shape [] false waiting word held ≡ true
-plain_word_passes shape waiting word held none = rw (none_met waiting word, no_dashes word none, no_long word none, no_short word none) refl
+plain_word_passes shape waiting word held none = let flag = no_flag word none in rw (none_met waiting word, flag.0, flag.1, flag.2) refl
 
 pub turn_plain_passes : (shape : Shape) (held : Held) (waiting : Waiting) (position : ℕ) (word : Text) → HasNoDash word
     → step_passes shape position (plain_word shape.rules waiting word held).0 (plain_word shape.rules waiting word held).1 ≡ true

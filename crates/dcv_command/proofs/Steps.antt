@@ -1,14 +1,14 @@
 -- What each use of an argument keeps of the rows, a walk in which no fault is found keeps.
 use Rattle.dcv_command.proofs.Common.{◌≡◌, refl, ap, ℕ, suc, Bool, true, false, List, [], ◌∷◌, Option, None, Some, find, fold, is_some}
-use Rattle.dcv_command.proofs.Common.{◌&&◌, if◌then◌else◌, option_map_or, bytes_eq, true≢false, Row, Rule, Shape, Text, or_else, long_of}
-use Rattle.dcv_command.proofs.Common.{short_of, Held, Names, Step, trailing, Waiting, idle, option, positional, Walk, after_flag}
+use Rattle.dcv_command.proofs.Common.{◌&&◌, if◌then◌else◌, AllByRecursion, option_map_or, bytes_eq, true≢false, Row, Rule, Shape, Text, or_else, long_of}
+use Rattle.dcv_command.proofs.Common.{short_of, Held, Names, Step, trailing, Waiting, option, Walk, after_flag}
 use Rattle.dcv_command.proofs.Common.{after_step, arg_by_index, long_or_other, plain_word, settled, subcommand_met, subcommand_or_other}
 use Rattle.dcv_command.proofs.Common.{to_positional, word_met, other_fault, settle_fault, step_fault, turn_fault, word_fault}
 use Rattle.std.proofs.Common.{zero}
 use Rattle.std.specs.Prelude.{slice_get}
 use Rattle.std.specs.Str.{chars}
 use Rattle.clap.specs.Kinds.{Kinds}
-use Rattle.clap.specs.Walk.{Outcome, done, waits, plain, refused, next, subcommand, value}
+use Rattle.clap.specs.Walk.{Outcome, done, waits, plain, value}
 use Rattle.clap.specs.Walk.{arg_by_id, arg_by_long, arg_by_short, attached_value, bundle, bundle_met, bundle_step, flag_met, is_pending, long_met}
 use Rattle.clap.specs.Walk.{option_met, option_word, reacted, settled_rows, short_met, short_or_plain}
 use Rattle.clap.specs.Walk.{takes_several, takes_values, used, used_by_id, walked, walked_from}
@@ -35,15 +35,11 @@ going_has_none false kinds is e = e
 abbrev pub Keeps : Bool → (List Row → Type 0) → Rule → Type 0
 Keeps again Kept rule = (values : List Text) (rows : List Row) → Kept rows → use_fault again rule values rows ≡ [] → Kept (used rule values rows)
 
-abbrev pub EachKeeps : Bool → (List Row → Type 0) → List Rule → Type 0
-EachKeeps again Kept [] = Unit {0}
-EachKeeps again Kept (rule ∷ rules) = Keeps again Kept rule × EachKeeps again Kept rules
-
 abbrev pub KeepsIfFound : Bool → (List Row → Type 0) → Option Rule → Type 0
 KeepsIfFound again Kept None = Unit {0}
 KeepsIfFound again Kept (Some rule) = Keeps again Kept rule
 
-found_keeps : (again : Bool) (Kept : List Row → Type 0) (test : Rule → Bool) (rules : List Rule) → EachKeeps again Kept rules → KeepsIfFound again Kept (find test rules)
+found_keeps : (again : Bool) (Kept : List Row → Type 0) (test : Rule → Bool) (rules : List Rule) → AllByRecursion (Keeps again Kept) rules → KeepsIfFound again Kept (find test rules)
 found_keeps again Kept test [] each = tt
 found_keeps again Kept test (rule ∷ rules) (one, others) = by (test rule) (found_keeps again Kept test rules others)
   where
@@ -51,7 +47,7 @@ found_keeps again Kept test (rule ∷ rules) (one, others) = by (test rule) (fou
     by true later = one
     by false later = later
 
-module _ (shape : Shape) (Kept : List Row → Type 0) (each : EachKeeps shape.args_override_self Kept shape.rules) where
+module _ (shape : Shape) (Kept : List Row → Type 0) (each : AllByRecursion (Keeps shape.args_override_self Kept) shape.rules) where
   -- ---- uses
 
   by_id_keeps : (found : Option Rule) → KeepsIfFound shape.args_override_self Kept found → (values : List Text) (rows : List Row) → Kept rows
@@ -137,15 +133,13 @@ module _ (shape : Shape) (Kept : List Row → Type 0) (each : EachKeeps shape.ar
   option_word_keeps (Some rule) id word held kept = kept
 
   plain_keeps : (waiting : Waiting) (word : Text) (held : Held) → Kept held.rows → Kept (plain_word shape.rules waiting word held).0.rows
-  plain_keeps idle word held kept = kept
   plain_keeps (option id) word held kept = option_word_keeps (arg_by_id shape.rules id) id word held kept
-  plain_keeps positional word held kept = kept
+  plain_keeps _ word held kept = kept
 
   after_flag_keeps : (waiting : Waiting) (word : Text) (held : Held) (outcome : Outcome) → Kept held.rows → Kept (after_flag shape.rules waiting word held outcome).0.rows
   after_flag_keeps waiting word held done kept = kept
   after_flag_keeps waiting word held (waits id) kept = kept
-  after_flag_keeps waiting word held plain kept = plain_keeps waiting word held kept
-  after_flag_keeps waiting word held refused kept = plain_keeps waiting word held kept
+  after_flag_keeps waiting word held _ kept = plain_keeps waiting word held kept
 
   short_word_keeps : (waiting : Waiting) (word : Text) (short : Option Text) (held : Held) → Kept held.rows
       → option_map_or (λ flags. bundle_fault shape.rules shape.args_override_self flags held) short [] ≡ [] → Kept (short_or_plain shape.rules waiting word short held).0.rows
@@ -188,10 +182,8 @@ module _ (shape : Shape) (Kept : List Row → Type 0) (each : EachKeeps shape.ar
 
   step_keeps : (word : Text) (w : Walk) (held : Held) (step : Step) → Kept held.rows → step_fault shape w.position held step ≡ []
       → Kept (after_step shape.rules word w held step).held.rows
-  step_keeps word w held (next waiting) kept none = kept
-  step_keeps word w held (trailing position) kept none = kept
-  step_keeps word w held (subcommand name) kept none = kept
   step_keeps word w held value kept none = positional_keeps (arg_by_index shape.rules w.position) word w held kept none
+  step_keeps word w held _ kept none = kept
 
   turn_keeps : (names : Names) (w : Walk) (word : Text) (stopped : Option (Text × List Text)) → w.stopped ≡ stopped → Kept w.held.rows → turn_fault shape names w word ≡ []
       → Kept (walked_from shape.rules names stopped w word).held.rows

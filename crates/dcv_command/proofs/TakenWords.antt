@@ -1,15 +1,15 @@
 -- Words in which no fault is found name a subcommand, and each subcommand asks for something.
 use Rattle.dcv_command.proofs.Common.{◌≡◌, ℕ, Bool, true, false, List, [], ◌∷◌, Option, None, Some, refl, sym, subst, codes, ap, ◌∙◌}
 use Rattle.dcv_command.proofs.Common.{is_some, find, ◌||◌, option_and_then, option_map, fold, not, ◌&&◌, if◌then◌else◌, option_map_or}
-use Rattle.dcv_command.proofs.Common.{bytes_eq, AllByRecursion, list_any, bytes_eq-Decides, true≢false, Text, Row, Rule, Shape, Held, Names}
-use Rattle.dcv_command.proofs.Common.{Walk, Waiting, idle, option, positional, Step, trailing, false_from_ne_true, explicit_source}
+use Rattle.dcv_command.proofs.Common.{bytes_eq, AllByRecursion, list_any, true≢false, Text, Row, Rule, Shape, Held, Names}
+use Rattle.dcv_command.proofs.Common.{Walk, Waiting, idle, Step, explicit_source}
 use Rattle.dcv_command.proofs.Common.{is_given, long_of, short_of, finished, settled, nothing_held, walk, walk_from, word_met, rows_after}
 use Rattle.dcv_command.proofs.Common.{subcommand_met, subcommand_or_other, long_or_other, after_flag, plain_word, after_step, to_positional}
 use Rattle.dcv_command.proofs.Common.{arg_by_index, check_kinds, check_fault, level_fault, settle_fault, turn_fault, step_fault, word_fault}
 use Rattle.dcv_command.proofs.Common.{other_fault, program, request_in, request_of_subcommand, Command, commands}
 use Rattle.std.specs.Prelude.{IsSome}
 use Rattle.clap.specs.Words.{built}
-use Rattle.clap.specs.Walk.{next, subcommand, value, Outcome, done, waits, refused, plain}
+use Rattle.clap.specs.Walk.{subcommand, value, Outcome, done, waits}
 use Rattle.clap.specs.Walk.{answers_to, walked, walked_from}
 use Rattle.clap.specs.Simple.{built_leaf, entered, help_shape, label_of, rows_at, names_of, subcommand_of}
 use Rattle.clap.specs.declared.error.kind.ErrorKind.TheVariants.{DisplayHelp, InvalidSubcommand}
@@ -18,7 +18,7 @@ use Rattle.clap.specs.Faults.{entered_fault, defaults_fault, walk_fault}
 use Rattle.dcv_command.specs.Request.{IsTaken, Request, request_of}
 use Rattle.dcv_command.specs.Laws.{TakenWordsAsk}
 use Rattle.dcv_command.proofs.Arguments.{built_rules, built_shape}
-use Rattle.dcv_command.proofs.Commands.{IsCommand, each_command, leaves}
+use Rattle.dcv_command.proofs.Commands.{IsCommand, each_command, leaves, turned}
 use Rattle.dcv_command.proofs.Steps.{first_is_empty, going_has_none, last_is_empty}
 use Rattle.dcv_command.proofs.Uses.{words_ask}
 
@@ -59,14 +59,12 @@ IsNoHelpStep _ = Unit {0}
 
 plain_no_help : (rules : List Rule) (waiting : Waiting) (word : Text) (held : Held) → IsNoHelpStep (plain_word rules waiting word held).1
 plain_no_help rules idle word held = tt
-plain_no_help rules (option id) word held = tt
-plain_no_help rules positional word held = tt
+plain_no_help rules _ word held = tt
 
 flag_no_help : (rules : List Rule) (waiting : Waiting) (word : Text) (held : Held) (outcome : Outcome) → IsNoHelpStep (after_flag rules waiting word held outcome).1
 flag_no_help rules waiting word held done = tt
 flag_no_help rules waiting word held (waits id) = tt
-flag_no_help rules waiting word held refused = plain_no_help rules waiting word held
-flag_no_help rules waiting word held plain = plain_no_help rules waiting word held
+flag_no_help rules waiting word held _ = plain_no_help rules waiting word held
 
 other_no_help : (rules : List Rule) (waiting : Waiting) (word : Text) (held : Held) (long : Option (Text × Option Text)) (short : Option Text)
     → short_of word ≡ short → IsNoHelpStep (long_or_other rules waiting word long held).1
@@ -101,10 +99,9 @@ positional_no_help rules (Some rule) word w held before = tt
 
 step_no_help : (rules : List Rule) (word : Text) (w : Walk) (held : Held) (step : Step) → StopsNotAtHelp w.stopped → IsNoHelpStep step
     → StopsNotAtHelp (after_step rules word w held step).stopped
-step_no_help rules word w held (next waiting) before is = before
-step_no_help rules word w held (trailing position) before is = before
 step_no_help rules word w held (subcommand name) before is = is
 step_no_help rules word w held value before is = positional_no_help rules (arg_by_index rules w.position) word w held before
+step_no_help rules word w held _ before is = before
 
 module _ (shape : Shape) (names : Names) (enabled : shape.disable_help_subcommand ≡ false) where
   turn_no_help : (w : Walk) (word : Text) (stopped : Option (Text × List Text)) → w.stopped ≡ stopped → StopsNotAtHelp w.stopped
@@ -133,14 +130,9 @@ AsksSomething rest found =
     option_map_or (λ shape. level_fault shape [] nothing_held rest false []) found [] ≡ [] → IsSome (option_map (λ s. rows_at s rest) found)
     → IsSome (option_and_then (λ found. request_in found.0 found.1) (option_map (λ s. rows_at s rest) found))
 
-help_names_none : (name : Text) → IsNoHelp name → bytes_eq (codes "help") name ≡ false
-help_names_none name differs =
-    false_from_ne_true (bytes_eq (codes "help") name)
-    (λ same. true≢false (sym ((bytes_eq-Decides name (codes "help")).1 (sym ((bytes_eq-Decides (codes "help") name).0 same))) ∙ differs))
-
 found_asks : (name : Text) (rest : List Text) (left : List Command) → IsNoHelp name → AllByRecursion IsCommand left
     → AsksSomething rest (find (λ s. answers_to name (label_of s)) (leaves left))
-found_asks name rest [] other each = by (bytes_eq (codes "help") name) (help_names_none name other)
+found_asks name rest [] other each = by (bytes_eq (codes "help") name) (turned name (codes "help") false other)
   where
     by : (named : Bool) → named ≡ false → AsksSomething rest (if named || false then Some (built_leaf help_shape) else None)
     by true is = absurd (true≢false is)

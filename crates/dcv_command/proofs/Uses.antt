@@ -2,7 +2,7 @@
 use Rattle.dcv_command.proofs.Common.{◌≡◌, refl, sym, subst, Bool, true, false, ℕ, suc, length, arith, List, [], ◌∷◌, Option, None, Some}
 use Rattle.dcv_command.proofs.Common.{find, ◌==◌, if◌then◌else◌, option_and_then, AllByRecursion, bytes_eq, true≢false, Kinds, Row, Text}
 use Rattle.dcv_command.proofs.Common.{reading_of, or_else, level_fault, accepts, nothing_held, rows_after, asked_in, value_in, Argument}
-use Rattle.dcv_command.proofs.Common.{Asks, Form, Operand, Required, WithDefault, Of, Value, FileName, Number}
+use Rattle.dcv_command.proofs.Common.{Asks, Form, WithDefault, Of, Value, FileName, Number}
 use Rattle.std.specs.Prelude.{IfSome, IsSome}
 use Rattle.std.proofs.lemmas.Bool.{eqb-true}
 use Rattle.clap.specs.Kinds.{range_kinds}
@@ -13,7 +13,7 @@ use Rattle.clap.specs.declared.parser.matches.ValueSource.TheVariants.{CommandLi
 use Rattle.dcv_command.proofs.Arguments.{IsLookedUp, all_looked_up, are_sound, built_rule, built_rules, built_shape, default_fits, defaults_of, is_required, next_place, parser}
 use Rattle.dcv_command.proofs.Leaves.{IsFoundIfSure, all_found}
 use Rattle.dcv_command.proofs.Rows.{AreReadable, HasDefault, HasReadableDefaults, IsFound, IsReadableDefault, readable_with, readable_without, says_so, value_is_there}
-use Rattle.dcv_command.proofs.Steps.{EachKeeps, Keeps, last_is_empty}
+use Rattle.dcv_command.proofs.Steps.{Keeps, last_is_empty}
 
 -- ---- what is known of a text, by the argument
 
@@ -39,9 +39,8 @@ found_each Says [] place rows found = tt
 found_each Says (one ∷ rest) place rows (first, others) = (by one.form first.required first.default, found_each Says rest (next_place one.form place) rows others)
   where
     by : (form : Form) → (is_required form ≡ true → IsFound Says one.id rows) → (HasDefault (defaults_of form) → IsFound Says one.id rows) → IsFound Says one.id rows
-    by Operand required default = required refl
-    by Required required default = required refl
     by (WithDefault text) required default = default tt
+    by _ required default = required refl
 
 -- ---- a use of an argument leaves rows that can be read
 
@@ -83,16 +82,15 @@ module _ (arguments : List Argument) where
       (readable_without (Says Accepts arguments) one.id rows all)
   argument_keeps place one is (text ∷ other ∷ more) rows all none = absurd (two_are_refused (length more) _ none)
 
-  each_keeps : (left : List Argument) (place : ℕ) → AllByRecursion (IsLookedUp arguments) left → EachKeeps false Kept (built_rules left place)
+  each_keeps : (left : List Argument) (place : ℕ) → AllByRecursion (IsLookedUp arguments) left → AllByRecursion (Keeps false Kept) (built_rules left place)
   each_keeps [] place each = (λ values rows all none. all, tt)
   each_keeps (one ∷ rest) place (first, others) = (argument_keeps place one first, each_keeps rest (next_place one.form place) others)
 
   default_is_readable : (form : Form) (one : Argument) → IsLookedUp arguments one → default_fits form one.value ≡ true
       → IsReadableDefault (Says Accepts arguments) one.id (reading_of (parser one.value)) (defaults_of form)
-  default_is_readable Operand one is fits = tt
-  default_is_readable Required one is fits = tt
   default_is_readable (WithDefault text) one is fits =
       record { text = text; first = refl; as_written = as_written one.value; says = own_says Accepts arguments one text is fits }
+  default_is_readable _ one is fits = tt
 
   defaults_are_readable : (left : List Argument) (place : ℕ) (rows : List Row) → AllByRecursion (IsLookedUp arguments) left
       → HasReadableDefaults (Says Accepts arguments) rows (built_rules left place)

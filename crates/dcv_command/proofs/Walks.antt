@@ -1,12 +1,13 @@
 -- The walk of `clap` over a command's operands and options: what is held after each, and what is found at the end.
 use Rattle.dcv_command.proofs.Common.{◌≡◌, ◌<◌, refl, sym, ap, ◌∙◌, subst, Bool, true, false, ℕ, List, [], ◌∷◌, ◌++◌, Option, None, Some}
 use Rattle.dcv_command.proofs.Common.{arith, find, fold, not, ◌&&◌, ◌||◌, ◌+◌, if◌then◌else◌, AllByRecursion, option_map_or, bytes_eq}
-use Rattle.dcv_command.proofs.Common.{append-nil, bytes_eq-Decides, true≢false, Row, Rule, Shape, Text, reading_of, explicit_source}
+use Rattle.dcv_command.proofs.Common.{append-nil, or-true, bytes_eq-Decides, true≢false, Row, Rule, Shape, Text, reading_of, explicit_source}
 use Rattle.dcv_command.proofs.Common.{settle_fault, step_fault, or_else, is_given, settle_passes, step_passes, accepts, Held, Step}
 use Rattle.dcv_command.proofs.Common.{after_flag, after_step, arg_by_index, has_row, idle, long_or_other, nothing_held, option, settled}
 use Rattle.dcv_command.proofs.Common.{to_positional, trailing, with_default, IsOption, has_name, Argument, value_of}
 use Rattle.std.proofs.Common.{ap₂, min}
 use Rattle.std.specs.Prelude.{nat_lt}
+use Rattle.std.proofs.Math.Bool.{and-false, or-false}
 use Rattle.std.proofs.Math.Nat.{min-eq_left}
 use Rattle.std.proofs.lemmas.List.Folds.{list_any-append}
 use Rattle.clap.specs.Faults.{flag_word_fault, long_fault, positional_fault, stray_fault, use_fault}
@@ -30,14 +31,8 @@ all_more P [] x all is = (is, tt)
 all_more P (one ∷ xs) x (first, others) is = (first, all_more P xs x others is)
 
 or_turns : (one other : Bool) → (one || (other || false)) ≡ (other || one)
-or_turns true true = refl
-or_turns true false = refl
-or_turns false true = refl
-or_turns false false = refl
-
-pub never : (b : Bool) → (b && false) ≡ false
-never true = refl
-never false = refl
+or_turns true other = sym (or-true other)
+or_turns false other = or-false other ∙ sym (or-false other)
 
 -- ---- rows
 
@@ -155,7 +150,7 @@ module _ (arguments : List Argument) (values : Values) where
       pub operand_goes : arg_by_index rules place ≡ Some (built_rule place one) → place < 2000
           → Goes shape (going held idle place) text (going (holding before.rows one.id text) idle (place + 1))
       operand_goes here few =
-          let several = never (is_pending (built_rule place one) held.pending) in
+          let several = and-false (is_pending (built_rule place one) held.pending) in
           plain_goes shape held idle place text (going (holding before.rows one.id text) idle (place + 1)) no_dash
           (ap (λ found. option_map_or (λ rule. positional_fault rules false rule held) found (stray_fault shape)) here
           ∙ ap (λ several. if several then [] else settle_fault rules false held) several ∙ before.no_fault)

@@ -7,6 +7,3 @@ pub returns-in_err-automaton_read-clause-refused : goal.returns-in_err-automaton
 returns-in_err-automaton_read-clause-refused c =
     let p = err_from_is_err_and c.from_residual.result c.from_residual.ensures.1 in
     rw (p.1, p.2) (explains_automaton c.args.text.now c.in_err-automaton_read.field-0.0 c.requires c.in_err-automaton_read.ensures.fault)
-
-pub returns-clause-spelled : goal.returns-clause-spelled
-returns-clause-spelled c = record { fits = c.requires; form = c.in_ok-automaton_read.ensures.form; good = c.in_ok-automaton_read.ensures.good }

@@ -5,9 +5,6 @@ use Rattle.dcv_cli.proofs.ThreeEnds.{for_any, performs_untaken}
 use Rattle.dcv_cli.proofs.TwoFiles.{performs_answered}
 use Rattle.dcv_cli.proofs.command.over_formula.Goals as goal
 
-pub answer-requires-clause-formula : goal.answer-requires-clause-formula
-answer-requires-clause-formula g c = let given = c.in-Ok.ensures.expanded in (given.text, given.is)
-
 pub returns-in-Ok : goal.returns-in-Ok
 returns-in-Ok g c =
     let given = c.in-Ok.ensures.expanded in

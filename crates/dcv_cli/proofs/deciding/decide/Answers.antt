@@ -1,15 +1,8 @@
 -- The verdict of the core's words is that of the behaviours that model the file.
 use Rattle.std.proofs.Common.{length}
-use Rattle.std.proofs.lemmas.Result.{err_from_is_err_and}
 use Rattle.dcv_logic.specs.Models.{models}
-use Rattle.dcv_cli.proofs.Budgets.{over_in_file, within_in_file, raw_of_file}
+use Rattle.dcv_cli.proofs.Budgets.{within_in_file, raw_of_file}
 use Rattle.dcv_cli.proofs.deciding.decide.Goals as goal
-
-pub returns-in_err-built-clause-over : goal.returns-in_err-built-clause-over
-returns-in_err-built-clause-over c file is =
-    let core = c.args.expanded.now.core in
-    let p = err_from_is_err_and c.from_residual.result c.from_residual.ensures.1 in
-    rw (p.1, p.2) (over_in_file file core is.declared is.steps c.args.limits c.in_err-built.field-0.0 (λ tree of. c.in_err-built.ensures.over tree of))
 
 pub returns-clause-decided : goal.returns-clause-decided
 returns-clause-decided c file is =

@@ -1,8 +1,7 @@
 -- What is answered of the automata is what is right for the files.
-use Rattle.dcv_cli.proofs.Common.{◌∙◌, sym, ap, Err, letters_of, steps_of_file, IsCompared, First, Second}
+use Rattle.dcv_cli.proofs.Common.{◌∙◌, sym, ap, Err, letters_of, IsCompared, First, Second}
 use Rattle.dcv_cli.proofs.Comparisons.{names_same, names_differ, count_same, explains_first_over, explains_second_over, compares, explains_product}
 use Rattle.dcv_cli.proofs.Comparisons.{undeclared}
-use Rattle.dcv_cli.proofs.Outcomes.{over_is_of_text}
 use Rattle.dcv_cli.proofs.ThreeEnds.{marked_explains}
 use Rattle.dcv_cli.proofs.implies.compare.Goals as goal
 
@@ -20,12 +19,6 @@ returns-in-Err-clause-refused c one other is is' =
     let refusal = c.in-Err.refusal in
     rw c.in_file.ensures (marked_explains (IsCompared c.args.limits one other) First refusal (explains_first_over c.args.limits one other refusal same (c.in-Err.ensures.over one is)))
 
-pub returns-in-Err-clause-own : goal.returns-in-Err-clause-own
-returns-in-Err-clause-own c =
-    let file = c.requires.one in
-    let refusal = c.in-Err.refusal in
-    rw c.in_file.ensures ((over_is_of_text (steps_of_file file.file) c.args.limits refusal (c.in-Err.ensures.over file.file file.is)))
-
 pub returns-in-Err-built-clause-refused : goal.returns-in-Err-built-clause-refused
 returns-in-Err-built-clause-refused c one other is is' =
     let same = names_same c.deref.result.now c.deref-2.result.now one other c.have_same_names.result c.have_same_names.ensures (c.deref.ensures.value ∙ is.names)
@@ -33,13 +26,6 @@ returns-in-Err-built-clause-refused c one other is is' =
     let refusal = c.in-Err-built.refusal in
     rw c.in_file-in-Err-built.ensures (marked_explains (IsCompared c.args.limits one other) Second refusal
     (explains_second_over c.args.limits one other refusal c.in-Ok.auto same (c.in-Ok.ensures.built one is) (c.in-Err-built.ensures.over other is')))
-
-pub returns-in-Err-built-clause-own : goal.returns-in-Err-built-clause-own
-returns-in-Err-built-clause-own c =
-    let file = c.requires.other in
-    let refusal = c.in-Err-built.refusal in
-    rw c.in_file-in-Err-built.ensures
-    ((over_is_of_text (steps_of_file file.file) c.args.limits refusal (c.in-Err-built.ensures.over file.file file.is)))
 
 pub least_outside-requires : goal.least_outside-requires
 least_outside-requires c =

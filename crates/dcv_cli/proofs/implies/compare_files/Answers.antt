@@ -24,6 +24,3 @@ returns-in-Err g c =
     rw c.in_file.ensures (performs_untaken _ _ (c.args.second.now ∷ []) c.in-Err.refusal taken _ _ First
     (explains_file _ _ First (λ held one. OnHeld (held 1) c.args.second.now (λ text. OnText text Second (IsCompared c.args.limits one))) c.in-Err.refusal c.in-Err.ensures.refused)
     (leaves_first c.args.first.now c.args.second.now c.args.limits _ _ taken.asked))
-
-pub over_formula-requires : goal.over_formula-requires
-over_formula-requires g c = let known = c.in-Ok.ensures.expanded.is in record { file = known.file; is = known.is }

@@ -1,7 +1,6 @@
 -- What the reader says of the text is what is right for it.
 use Rattle.dcv_cli.proofs.Common.{err_from_is_err_and}
 use Rattle.dcv_command.specs.declared.words.Subset.TheVariants as subset
-use Rattle.dcv_replay.specs.Observer.{C}
 use Rattle.dcv_cli.proofs.Replays.{explains_observer}
 use Rattle.dcv_cli.proofs.replay.unit_of.Goals as goal
 
@@ -9,10 +8,3 @@ pub returns-in_err-unit-clause-refused : goal.returns-in_err-unit-clause-refused
 returns-in_err-unit-clause-refused c =
     let p = err_from_is_err_and c.from_residual.result c.from_residual.ensures.1 in
     rw (p.1, p.2) (explains_observer subset.C c.args.text.now c.in_err-unit.field-0.0 c.requires c.in_err-unit.ensures.fault)
-
-pub returns-clause-observer : goal.returns-clause-observer
-returns-clause-observer c = record {
-  observer = C c.in_ok-unit.unit;
-  is = record { fits = c.requires; read = c.in_ok-unit.ensures.read };
-  follows = c.in_ok-replay.ensures;
-}

@@ -1,13 +1,8 @@
 -- The automaton of the core is that of the file, within what may be printed.
-use Rattle.dcv_cli.proofs.Common.{List, length, sym, subst, ap, ◌∙◌, arith, err_from_is_err_and, AreNames, texts_of, Name}
+use Rattle.dcv_cli.proofs.Common.{List, length, sym, subst, ap, ◌∙◌, arith, AreNames, texts_of, Name}
 use Rattle.dcv_cli.proofs.StepCounts.{printable_counts}
 use Rattle.dcv_cli.proofs.VariableNames.{are_names}
 use Rattle.dcv_cli.proofs.report.judge.Goals as goal
-
-pub returns-in_err-built-clause-over : goal.returns-in_err-built-clause-over
-returns-in_err-built-clause-over c file is =
-    let p = err_from_is_err_and c.from_residual.result c.from_residual.ensures.1 in
-    rw (p.1, p.2) (c.in_err-built.ensures.over file is)
 
 pub returns-clause-judged : goal.returns-clause-judged
 returns-clause-judged c text file formula is =

@@ -1,10 +1,7 @@
-use Rattle.dcv_cli.proofs.Common.{refl, err_from_is_err_and, status_of_verdict, Memory}
+use Rattle.dcv_cli.proofs.Common.{refl, err_from_is_err_and, status_of_verdict}
 use Rattle.dcv_cli.proofs.Outcomes.{answer_of_verdict, answers_over, answers_report}
-use Rattle.dcv_cli.proofs.ThreeEnds.{answers_only, answers_reply}
+use Rattle.dcv_cli.proofs.ThreeEnds.{answers_reply}
 use Rattle.dcv_cli.proofs.report.print.Goals as goal
-
-pub judge-requires : goal.judge-requires
-judge-requires g c = record { core = c.requires.text.1.is.core; limits = c.requires.limits }
 
 pub report_on-requires : goal.report_on-requires
 report_on-requires g c =
@@ -14,11 +11,6 @@ pub returns-in_err-judged : goal.returns-in_err-judged
 returns-in_err-judged g c text file formula is =
     let p = err_from_is_err_and c.from_residual.result c.from_residual.ensures.1 in
     rw (p.1, p.2) (answers_over file c.in_err-judged.field-0.0 (c.in_err-judged.ensures.over file is) _ _)
-
-pub returns-in_err-report : goal.returns-in_err-report
-returns-in_err-report g c text file formula is =
-    let p = err_from_is_err_and c.from_residual-in_err-report.result c.from_residual-in_err-report.ensures.1 in
-    rw (p.1, p.2) (answers_only _ Memory refl tt _ _)
 
 pub returns : goal.returns
 returns g c text file formula is =

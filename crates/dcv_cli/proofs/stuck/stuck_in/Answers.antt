@@ -1,21 +1,10 @@
 -- What is found in the automaton is said of the file.
 use Rattle.std.proofs.Common.{subst}
-use Rattle.std.proofs.lemmas.Result.{err_from_is_err_and}
 use Rattle.dcv_dfa.specs.Raw.{RawValue, raw_accepts}
 use Rattle.dcv_print.specs.Verdict.{letters_of}
 use Rattle.dcv_stuck.specs.Stuck.{IsLeastStuckOf}
 use Rattle.dcv_cli.proofs.StuckReports.{built_reports}
 use Rattle.dcv_cli.proofs.stuck.stuck_in.Goals as goal
-
-pub returns-in_err-auto-clause-over : goal.returns-in_err-auto-clause-over
-returns-in_err-auto-clause-over c file is =
-    let p = err_from_is_err_and c.from_residual.result c.from_residual.ensures.1 in
-    rw (p.1, p.2) (c.in_err-auto.ensures.over file is)
-
-pub returns-in_err-least-clause-over : goal.returns-in_err-least-clause-over
-returns-in_err-least-clause-over c file is =
-    let p = err_from_is_err_and c.from_residual-in_err-least.result c.from_residual-in_err-least.ensures.1 in
-    rw (p.1, p.2) tt
 
 pub returns-clause-found : goal.returns-clause-found
 returns-clause-found c file is =

@@ -1,12 +1,7 @@
 -- No file is asked for, so no count of theirs rises.
-use Rattle.dcv_cli.proofs.Common.{[], refl, err_from_is_err_and, summary_text, Memory, Done, IsSwept}
-use Rattle.dcv_cli.proofs.ThreeEnds.{answers_only, answers_reply, for_any, performs_none}
+use Rattle.dcv_cli.proofs.Common.{[], refl, summary_text, Done, IsSwept}
+use Rattle.dcv_cli.proofs.ThreeEnds.{answers_reply, for_any, performs_none}
 use Rattle.dcv_cli.proofs.sweep.sweep_formulas.Goals as goal
-
-pub returns-in_err-summary : goal.returns-in_err-summary
-returns-in_err-summary g c told asked open_faults read_faults =
-    let p = err_from_is_err_and c.from_residual.result c.from_residual.ensures.1 in
-    rw (p.1, p.2) (performs_none [] told asked open_faults read_faults (answers_only _ Memory refl tt _ _))
 
 pub returns : goal.returns
 returns g c told asked open_faults read_faults =

@@ -4,9 +4,6 @@ use Rattle.dcv_cli.proofs.Comparisons.{answers_least, on_true_each}
 use Rattle.dcv_cli.proofs.ThreeEnds.{answers_refused, answers_reply}
 use Rattle.dcv_cli.proofs.implies.ComparerFormulaCommand.answer.Goals as goal
 
-pub compare-requires : goal.compare-requires
-compare-requires g c = let given = c.requires.formula.1 in record { one = c.requires.fits; other = record { file = given.file; is = given.is } }
-
 pub returns-in_err-compared : goal.returns-in_err-compared
 returns-in_err-compared g c text file formula is =
     let p = err_from_is_err_and c.from_residual.result c.from_residual.ensures.1 in

@@ -35,11 +35,6 @@ pub synthesise-requires-clause-printable : goal.synthesise-requires-clause-print
 synthesise-requires-clause-printable g c =
     let given = c.requires.formula.1 in (c.in_ok-judged.ensures.judged c.requires.formula.0 given.file given.formula given.is).printable
 
-pub synthesise-requires-clause-divided : goal.synthesise-requires-clause-divided
-synthesise-requires-clause-divided g c =
-    tested c.args.self.now.inputs c.deref.result.now c.args.formula.names.items c.in_ok-judged.judged.names.items c.can_be_divided.result c.can_be_divided.ensures
-    c.deref.ensures.value (sym c.in_ok-judged.ensures.names) ∙ c.if-not-can_be_divided.false
-
 pub returns : goal.returns
 returns g c text file formula is =
     let self = c.args.self.now in
