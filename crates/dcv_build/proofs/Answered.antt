@@ -1,14 +1,14 @@
 -- What is known stays right while the shelf grows, and what is found answers.
-use Rattle.std.proofs.Common.{◌≡◌, ℕ, ◌-◌, ◌<◌, true, List, [], length, get_or, Option, None, Some, IfSome, slice_get, Result, Ok, Err, IfOk, OnOk, OnErr, inl, inr, refl, sym, ap, subst, ◌∙◌, arith}
+use Rattle.std.proofs.Common.{◌≡◌, ℕ, ◌-◌, ◌<◌, true, List, [], length, get_or, Option, None, Some, IfSome, slice_get, Result, Ok, Err, IfOk, OnOk, OnErr, inl, inr, sym, ap, subst, ◌∙◌, arith}
 use Rattle.std.specs.Cmp.{unsigned_Decides}
 use Rattle.std.specs.Map.{lookup}
 use Rattle.std.proofs.lemmas.Bool.{false≢true}
 use Rattle.std.proofs.lemmas.Bool.Decides.{Decides-and}
 use Rattle.std.proofs.lemmas.List.{get_or-map}
 use Rattle.std.proofs.lemmas.Option.{same_Some, slice_get_within}
+use Rattle.std.proofs.lemmas.Result.{IfErr-at_err}
 use Rattle.indexmap.specs.IndexMap.{insert_entry}
 use Rattle.lru.proofs.CallerLemmas.{Contains-lookup}
-use Rattle.dcv_build.proofs.FaultFacts.{same_fault}
 use Rattle.dcv_build.proofs.Insertions.{insert_cases}
 use Rattle.dcv_build.proofs.Settled.{made_is_built}
 use Rattle.dcv_language.specs.Automaton.{WorkingMachine}
@@ -19,12 +19,11 @@ use Rattle.dcv_explore.specs.Budget.{Row}
 use Rattle.dcv_shelf.specs.Shelf.{ShelfTable, table_of_auto, nodes_of_table, KeepsNumbers, HasComplement}
 use Rattle.dcv_build.specs.Asked.{no_table, at_number, plain_tables, asked_row, AreTwo, IsWide, AreOperands, IsAnswer, AreAnswers, IsPut, IsTurned}
 use Rattle.dcv_build.specs.Rows.{pair_row, chop_row, star_row, set_row}
-use Rattle.dcv_build.specs.Settled.{IsBuilt, HasExplored, IsLeastMade, Settles, IsFor, Answers}
+use Rattle.dcv_build.specs.Settled.{IsBuilt, HasExplored, IsLeastMade, IsPassed, Settles, IsFor, Answers}
 use Rattle.dcv_build.specs.declared.asked.Answer.{Answer}
 use Rattle.dcv_build.specs.declared.asked.Asked.{Asked}
 use Rattle.dcv_build.specs.declared.asked.Asked.TheVariants.{And, Or, Iff, Chop, Star, Exists}
 use Rattle.dcv_build.specs.declared.faults.BuildFault.{BuildFault}
-use Rattle.dcv_build.specs.declared.faults.BuildFault.TheVariants.{States, Nodes}
 use Rattle.dcv_build.specs.declared.settling.Explored.{Explored}
 use Rattle.dcv_build.specs.declared.settling.Made.{Made}
 use Rattle.dcv_build.specs.contracts.asked.AskedPartialEq.TheImpl.{eq-value as asked_eq}
@@ -34,11 +33,7 @@ use Rattle.dcv_build.proofs.ShelfTables.{at_of, at_kept, within_kept}
 
 module _ {S : Type 0} (machine : WorkingMachine S) (parts : ℕ) (limits : Limits) (step : ℕ) (shelf : List ShelfTable) where
   fault_answers : (result : Result Explored BuildFault) → Settles machine parts limits step result → (fault : BuildFault) → result ≡ Err fault → Answers machine parts limits step shelf (Err fault)
-  fault_answers result settles fault is = record {
-    built = tt;
-    states = λ at limit named. settles.states at limit (is ∙ ap Err (same_fault (Err fault) fault fault (States at limit) refl refl named));
-    nodes = λ at limit named. settles.nodes at limit (is ∙ ap Err (same_fault (Err fault) fault fault (Nodes at limit) refl refl named));
-  }
+  fault_answers result settles fault is = record { built = tt; over = IfErr-at_err (IsPassed machine parts limits step) is settles.over }
 
   -- the fault of the exploration, handed on
   pub answers_fault : (result : Result Explored BuildFault) → Settles machine parts limits step result → (given own : BuildFault) → result ≡ Err own
@@ -61,11 +56,7 @@ module _ {S : Type 0} (machine : WorkingMachine S) (parts : ℕ) (limits : Limit
 
   pub put_answers : (explored : Explored) (made : Made) (answer : Answer) → HasExplored machine parts limits explored → IsLeastMade explored made → IsPut made shelf answer
       → Answers machine parts limits step shelf (Ok answer)
-  put_answers explored made answer has least put = record {
-    built = for_put explored made answer has least put;
-    states = λ at limit same. absurd cc;
-    nodes = λ at limit same. absurd cc;
-  }
+  put_answers explored made answer has least put = record { built = for_put explored made answer has least put; over = tt }
 
 -- ---- a shelf that has grown
 

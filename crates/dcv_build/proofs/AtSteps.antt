@@ -246,8 +246,7 @@ module _ (k : ℕ) (tree : CoreTree) (limits : Limits) (n : ℕ) (shelf : List S
           (record {
             built = subst (λ (one : ShelfTable). IsNext (steps_of k tree) limits n (tables_at shelf rest) counts one answer.states answer.nodes)
                 (sym (at_of after answer.number turned.turned turned.there)) next;
-            states = λ at limit same. absurd cc;
-            nodes = λ at limit same. absurd cc;
+            over = tt;
           })
 
 -- ---- at a step of a core

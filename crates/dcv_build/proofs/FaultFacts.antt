@@ -1,6 +1,8 @@
 -- A fault that `?` hands on is the callee's.
-use Rattle.std.proofs.Common.{◌≡◌, Result, Err}
-use Rattle.dcv_build.specs.declared.faults.BuildFault.{BuildFault}
+use Rattle.std.proofs.Common.{◌≡◌, Result, Ok, Err, IfErr, IsErrAnd, sym, subst}
+use Rattle.std.proofs.lemmas.Result.{IfErr-at_err}
 
-pub same_fault : {T : Type 0} (result : Result T BuildFault) (given own named : BuildFault) → result ≡ Err given → given ≡ own → result ≡ Err named → own ≡ named
-same_fault result given own named is handed e = cc
+pub handed_on : {T U E : Type 0} (P : E → Type 0) (result : Result T E) (own : E) (returned : Result U E) → IfErr result P → result ≡ Err own
+    → IsErrAnd returned (λ given. given ≡ own) → IfErr returned P
+handed_on P result own (Ok value) holds was same = tt
+handed_on P result own (Err given) holds was same = subst P (sym same) (IfErr-at_err P was holds)

@@ -3,6 +3,7 @@
 use Rattle.std.proofs.Common.{◌≡◌, ℕ, zero, suc, ◌+◌, ◌<◌, ◌≤◌, List, [], ◌∷◌, ◌++◌, length, reverse, Some, slice_get, Result, Ok, Err, IfOk, inl, inr, refl, sym, ap, subst, ◌∙◌, arith, length-append}
 use Rattle.std.proofs.lemmas.List.{reverse-append}
 use Rattle.std.proofs.lemmas.Option.{slice_get_within, slice_get-get_or}
+use Rattle.std.proofs.lemmas.Result.{IfErr-weaker}
 use Rattle.dcv_language.specs.declared.count.Count.{Count}
 use Rattle.dcv_word.specs.Behaviour.{Word}
 use Rattle.dcv_language.specs.Automaton.{accepts}
@@ -25,13 +26,14 @@ use Rattle.dcv_explore.proofs.Places.{pushed_cases}
 use Rattle.dcv_shelf.specs.Shelf.{ShelfTable, table_of_auto}
 use Rattle.dcv_build.specs.declared.asked.Answer.{Answer}
 use Rattle.dcv_build.specs.declared.faults.BuildFault.{BuildFault}
+use Rattle.dcv_build.specs.declared.faults.BuildFault.TheVariants.{States, Nodes, Memory}
 use Rattle.dcv_build.specs.declared.settling.Explored.{Explored}
-use Rattle.dcv_build.specs.Budget.{row_at, IsStepDone, IsDone, IsOver}
+use Rattle.dcv_build.specs.Budget.{row_at, IsStepDone, IsDone, IsOver, IsFaultOver}
 use Rattle.dcv_build.specs.Building.{IsNewest, AreWaiting, HasBuilt, IsNext, GoesWith, MakesNext, Goes, Makes}
 use Rattle.dcv_build.specs.Counts.{HasAllCounts, IsCount}
 use Rattle.dcv_build.specs.Laws.{AreCanonicalBefore}
 use Rattle.dcv_build.specs.Rows.{row_of}
-use Rattle.dcv_build.specs.Settled.{IsOwn, IsBuilt, IsServing, Serves, IsFor, Answers}
+use Rattle.dcv_build.specs.Settled.{IsOwn, IsBuilt, IsServing, IsPassed, Serves, IsFor, Answers}
 use Rattle.dcv_build.proofs.SameRows.{table_at, row_over}
 use Rattle.dcv_build.proofs.ShelfTables.{at_of}
 use Rattle.dcv_build.proofs.StepMachines.{machine_accepts_step}
@@ -188,6 +190,11 @@ module _ (k : ℕ) (tree : CoreTree) (limits : Limits) (n : ℕ) (tables : List 
         subst (IsOver (steps_of k tree) limits kind) (sym same)
         (record { tables = tables; done = done; before = size; step = step; is_there = there; exceeds = exceeds })
 
+    over_is_first : (fault : BuildFault) → IsPassed (row_at step tables).machine (row_at step tables).parts limits n fault → IsFaultOver (steps_of k tree) limits fault
+    over_is_first (States at limit) passed = (passed.1, over_here TooManyStates at passed.0 passed.2)
+    over_is_first (Nodes at limit) passed = (passed.1, over_here TooManyNodes at passed.0 passed.2)
+    over_is_first Memory passed = tt
+
     -- the step's row accepts the step's words
     before : AreCanonicalBefore (steps_of k tree) n tables
     before number earlier below at =
@@ -235,8 +242,7 @@ module _ (k : ℕ) (tree : CoreTree) (limits : Limits) (n : ℕ) (tables : List 
         pub goes : (result : Result Answer BuildFault) → Answers (row_at step tables).machine (row_at step tables).parts limits n shelf result → Goes (steps_of k tree) limits n rest counts shelf result
         goes result answers = record {
           built = goes_where_ok result answers.built;
-          states = λ at limit is. let named = answers.states at limit is in (named.1, over_here TooManyStates at named.0 named.2);
-          nodes = λ at limit is. let named = answers.nodes at limit is in (named.1, over_here TooManyNodes at named.0 named.2);
+          over = IfErr-weaker result (IsPassed (row_at step tables).machine (row_at step tables).parts limits n) (IsFaultOver (steps_of k tree) limits) over_is_first answers.over;
         }
 
       -- it is not minimised
@@ -253,6 +259,5 @@ module _ (k : ℕ) (tree : CoreTree) (limits : Limits) (n : ℕ) (tables : List 
       pub makes : (result : Result Explored BuildFault) → Serves (row_at step tables).machine (row_at step tables).parts limits n result → Makes (steps_of k tree) limits n rest counts result
       makes result serves = record {
         built = makes_where_ok result serves.built;
-        states = λ at limit is. let named = serves.states at limit is in (named.1, over_here TooManyStates at named.0 named.2);
-        nodes = λ at limit is. let named = serves.nodes at limit is in (named.1, over_here TooManyNodes at named.0 named.2);
+        over = IfErr-weaker result (IsPassed (row_at step tables).machine (row_at step tables).parts limits n) (IsFaultOver (steps_of k tree) limits) over_is_first serves.over;
       }

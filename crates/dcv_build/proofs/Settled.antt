@@ -114,34 +114,20 @@ explored_serves row limits explored has =
     }
 
 pub settled_serves : (row : Row) (limits : Limits) (step : ℕ) (result : Result Explored BuildFault) → Settles row.machine row.parts limits step result → Serves row.machine row.parts limits step result
-settled_serves row limits step (Ok explored) settles = record { built = explored_serves row limits explored settles.built; states = settles.states; nodes = settles.nodes }
-settled_serves row limits step (Err fault) settles = record { built = tt; states = settles.states; nodes = settles.nodes }
+settled_serves row limits step (Ok explored) settles = record { built = explored_serves row limits explored settles.built; over = tt }
+settled_serves row limits step (Err fault) settles = record { built = tt; over = settles.over }
 
 -- ---- what the call answers
 
 module _ {S : Type 0} (machine : WorkingMachine S) (parts : ℕ) (limits : Limits) (step : ℕ) where
   pub settled_ok : (explored : Explored) → HasExplored machine parts limits explored → Settles machine parts limits step (Ok explored)
-  settled_ok explored is = record { built = is; states = λ at limit same. absurd cc; nodes = λ at limit same. absurd cc }
+  settled_ok explored is = record { built = is; over = tt }
 
   settled_states : MoreStates machine limits.states → Settles machine parts limits step (Err (States step limits.states))
-  settled_states more = record {
-    built = tt;
-    states = λ at limit same.
-        let place : at ≡ step = cc in
-        let number : limit ≡ limits.states = cc in
-        (place, number, more);
-    nodes = λ at limit same. absurd cc;
-  }
+  settled_states more = record { built = tt; over = (refl, refl, more) }
 
   settled_nodes : HasMoreNodes machine parts limits.nodes → Settles machine parts limits step (Err (Nodes step limits.nodes))
-  settled_nodes more = record {
-    built = tt;
-    states = λ at limit same. absurd cc;
-    nodes = λ at limit same.
-        let place : at ≡ step = cc in
-        let number : limit ≡ limits.nodes = cc in
-        (place, number, more);
-  }
+  settled_nodes more = record { built = tt; over = (refl, refl, more) }
 
   -- a fault of the explorer, to which the parts leave so much room
   pub settled_fault : (room : Limits) → room.states ≡ limits.states → room.nodes ≡ limits.nodes - parts → (explored : Result RawValue ExploreFault)
@@ -155,8 +141,7 @@ module _ {S : Type 0} (machine : WorkingMachine S) (parts : ℕ) (limits : Limit
   settled_fault room states_left nodes_left explored of_states of_nodes (TooLarge limit) is =
       let named = of_nodes limit is in
       settled_nodes (more_with_parts machine parts limits (subst (MoreNodes machine) (named.0 ∙ nodes_left) named.1))
-  settled_fault room states_left nodes_left explored of_states of_nodes NoMemory is =
-      record { built = tt; states = λ at limit same. absurd cc; nodes = λ at limit same. absurd cc }
+  settled_fault room states_left nodes_left explored of_states of_nodes NoMemory is = record { built = tt; over = tt }
 
   -- parts that are too many by themselves
   pub settled_parts : limits.nodes < parts → Settles machine parts limits step (Err (Nodes step limits.nodes))

@@ -11,7 +11,7 @@
 --     IsGoal core limits n auto counts  so it is with this automaton, on no shelf, as the newest
 --     IsExploredGoal core limits n raw counts   so it is with the canonical automaton of this one
 --     IsRawGoal core limits n raw complemented  so it is with that of what this one accepts, or of all else
-use Rattle.std.specs.Prelude.{◌≡◌, ℕ, ◌+◌, ◌≤◌, suc, Bool, List, [], ◌∷◌, ◌++◌, length, reverse, Some, slice_get, Result, Err, IfOk}
+use Rattle.std.specs.Prelude.{◌≡◌, ℕ, ◌+◌, ◌≤◌, suc, Bool, List, [], ◌∷◌, ◌++◌, length, reverse, Some, slice_get, Result, IfOk, IfErr}
 use Rattle.dcv_language.specs.declared.count.Count.{Count}
 use Rattle.dcv_language.specs.Table.{Table}
 use Rattle.dcv_core.specs.Core.{CoreTree}
@@ -20,15 +20,13 @@ use Rattle.dcv_dfa.specs.Auto.{IsAuto}
 use Rattle.dcv_dfa.specs.Raw.{RawValue, IsRaw, raw_accepts}
 use Rattle.dcv_language.specs.Language.{HaveSameBehaviours}
 use Rattle.dcv_explore.specs.declared.explorer.Limits.{Limits}
-use Rattle.dcv_explore.specs.Budget.{TooManyStates, TooManyNodes}
 use Rattle.dcv_shelf.specs.Shelf.{ShelfTable, table_of_auto}
 use Rattle.dcv_build.specs.declared.asked.Answer.{Answer}
 use Rattle.dcv_build.specs.declared.building.Building.{Building}
 use Rattle.dcv_build.specs.declared.faults.BuildFault.{BuildFault}
-use Rattle.dcv_build.specs.declared.faults.BuildFault.TheVariants.{States, Nodes}
 use Rattle.dcv_build.specs.declared.settling.Explored.{Explored}
 use Rattle.dcv_build.specs.Asked.{at_number, tables_at, AreThere}
-use Rattle.dcv_build.specs.Budget.{IsDone, IsOver, accepted_by}
+use Rattle.dcv_build.specs.Budget.{IsDone, IsFaultOver, accepted_by}
 use Rattle.dcv_build.specs.Counts.{IsCount}
 use Rattle.dcv_build.specs.Given.{IsCoreOf}
 use Rattle.dcv_build.specs.Settled.{IsOwn, IsLeastOf}
@@ -80,8 +78,7 @@ pub record MakesNext (steps : List PlainStep) (limits : Limits) (n : ℕ) (waiti
 
 pub record GoesTo {X : Type 0} (steps : List PlainStep) (limits : Limits) (IsGiven : X → Type 0) (result : Result X BuildFault) : Type 0 where
   pub built : IfOk result IsGiven
-  pub states : (at limit : ℕ) → result ≡ Err (States at limit) → (limit ≡ limits.states) × IsOver steps limits TooManyStates at
-  pub nodes : (at limit : ℕ) → result ≡ Err (Nodes at limit) → (limit ≡ limits.nodes) × IsOver steps limits TooManyNodes at
+  pub over : IfErr result (IsFaultOver steps limits)
 
 abbrev pub Goes : List PlainStep → Limits → ℕ → List ShelfTable → List Count → List ShelfTable → Result Answer BuildFault → Type 0
 Goes steps limits n waiting counts shelf result = GoesTo steps limits (GoesWith steps limits n waiting counts shelf) result

@@ -6,12 +6,13 @@
 --     IsLeastOf raw auto                the canonical automaton of what a raw one accepts
 --     IsLeastMade explored made         that of what was explored, beside the same counts
 --     IsServing                         an automaton for a machine that is within the limits: the canonical one of what it accepts is the machine's
+--     IsPassed machine parts limits step fault   the fault is at this step, whose machine passes the limit
 --     SettlesTo IsGiven                 what a call answers that explores a machine for a step: what is so, or that the machine is over a limit
 --     Settles, Serves                   the same, where it gives what was explored, and where any automaton that serves
 --     IsFor                             a number on a shelf is that of a machine's table, and the counts beside it are the machine's
 --     Answers                           what a call answers that finds a number for a step
 --     fault_at step limits fault        the fault of a step whose exploration has this fault
-use Rattle.std.specs.Prelude.{◌≡◌, ℕ, ◌+◌, ◌-◌, ◌≤◌, List, length, Some, slice_get, Result, Err, IfOk}
+use Rattle.std.specs.Prelude.{◌≡◌, ℕ, ◌+◌, ◌-◌, ◌≤◌, List, length, Some, slice_get, Result, IfOk, IfErr, ⊤}
 use Rattle.dcv_word.specs.Behaviour.{Word}
 use Rattle.dcv_language.specs.Automaton.{WorkingMachine, accepts}
 use Rattle.dcv_language.specs.Canonical.{IsCanonical}
@@ -84,10 +85,14 @@ pub record IsServing {S : Type 0} (machine : WorkingMachine S) (parts : ℕ) (li
   pub states : length explored.raw.rows ≤ limits.states
   pub nodes : length explored.raw.arena.nodes ≤ limits.nodes
 
+abbrev pub IsPassed : {S : Type 0} → WorkingMachine S → ℕ → Limits → ℕ → BuildFault → Type 0
+IsPassed machine parts limits step (States at limit) = (at ≡ step) × (limit ≡ limits.states) × Passes TooManyStates machine parts limits
+IsPassed machine parts limits step (Nodes at limit) = (at ≡ step) × (limit ≡ limits.nodes) × Passes TooManyNodes machine parts limits
+IsPassed machine parts limits step Memory = ⊤
+
 pub record SettlesTo {S X : Type 0} (machine : WorkingMachine S) (parts : ℕ) (limits : Limits) (step : ℕ) (IsGiven : X → Type 0) (result : Result X BuildFault) : Type 0 where
   pub built : IfOk result IsGiven
-  pub states : (at limit : ℕ) → result ≡ Err (States at limit) → (at ≡ step) × (limit ≡ limits.states) × Passes TooManyStates machine parts limits
-  pub nodes : (at limit : ℕ) → result ≡ Err (Nodes at limit) → (at ≡ step) × (limit ≡ limits.nodes) × Passes TooManyNodes machine parts limits
+  pub over : IfErr result (IsPassed machine parts limits step)
 
 abbrev pub Settles : {S : Type 0} → WorkingMachine S → ℕ → Limits → ℕ → Result Explored BuildFault → Type 0
 Settles machine parts limits step result = SettlesTo machine parts limits step (HasExplored machine parts limits) result

@@ -1,13 +1,10 @@
 // Builds of cores: each begins with nothing known, and explores no operator twice over the same automata of one shelf.
-ghost use Rattle.std.specs.Prelude.{◌≡◌, ◌≤◌, ℕ, Err, length, IfOk, OnOk};
+ghost use Rattle.std.specs.Prelude.{◌≡◌, length, IfOk};
 ghost use Rattle.dcv_core.specs.Core.{CoreTree};
-ghost use Rattle.dcv_core.specs.Holds.{words_of};
 ghost use Rattle.dcv_core.specs.Steps.{steps_of};
 ghost use Rattle.dcv_dfa.specs.Auto.{count_of_nodes};
-ghost use Rattle.dcv_explore.specs.Budget.{TooManyStates, TooManyNodes};
-ghost use Rattle.dcv_build.specs.declared.faults.BuildFault.TheVariants.{States, Nodes};
 ghost use Rattle.dcv_build.specs.Given.{IsCoreOf, IsCore};
-ghost use Rattle.dcv_build.specs.Budget.{IsWithinBudget, IsOver, IsAutomatonOf, IsRawOf};
+ghost use Rattle.dcv_build.specs.Budget.{IsAutomatonOf, IsRawOf, Builds};
 ghost use Rattle.dcv_build.specs.Counts.{AreCounts};
 
 use crate::building::{Building, is_complemented};
@@ -64,18 +61,7 @@ impl Model for Builder {
 pub fn build(alloc: Global, core: &Core, limits: Limits) -> Result<Auto, BuildFault>
     // A core has the steps of a tree where `expand` has made it.
     requires { IsCore core.now }
-
-    // The automaton is the canonical one of the core's words over the declared variables, and within the limits itself.
-    ensures canonical { (tree : CoreTree) → IsCoreOf tree core.now → IfOk result (IsAutomatonOf core.now.declared (words_of tree)) }
-    ensures few_states { IfOk result (λ auto. length auto.rows ≤ limits.states) }
-    ensures few_nodes { IfOk result (λ auto. count_of_nodes auto ≤ limits.nodes) }
-
-    // It comes only where each step is within the limits, and a fault names the first step that is not.
-    ensures within { (tree : CoreTree) → IsCoreOf tree core.now → OnOk result (IsWithinBudget (steps_of core.now.declared tree) limits) }
-    ensures states { (tree : CoreTree) (step limit : ℕ) → IsCoreOf tree core.now → result ≡ Err (States step limit)
-        → (limit ≡ limits.states) × IsOver (steps_of core.now.declared tree) limits TooManyStates step }
-    ensures nodes { (tree : CoreTree) (step limit : ℕ) → IsCoreOf tree core.now → result ≡ Err (Nodes step limit)
-        → (limit ≡ limits.nodes) × IsOver (steps_of core.now.declared tree) limits TooManyNodes step }
+    ensures { Builds core.now limits (IsAutomatonOf core.now.declared) (λ auto. length auto.rows) count_of_nodes result }
 {
     let mut builder = Builder::new(alloc, limits);
     builder.build(core)
@@ -84,19 +70,11 @@ pub fn build(alloc: Global, core: &Core, limits: Limits) -> Result<Auto, BuildFa
 /// The automaton of `build`, and beside it what each step took.
 pub fn build_counted(alloc: Global, core: &Core, limits: Limits) -> Result<Built, BuildFault>
     requires { IsCore core.now }
-    ensures canonical { (tree : CoreTree) → IsCoreOf tree core.now → IfOk result (λ built. IsAutomatonOf core.now.declared (words_of tree) built.auto) }
-    ensures few_states { IfOk result (λ built. length built.auto.rows ≤ limits.states) }
-    ensures few_nodes { IfOk result (λ built. count_of_nodes built.auto ≤ limits.nodes) }
+    ensures builds { Builds core.now limits (λ words built. IsAutomatonOf core.now.declared words built.auto)
+        (λ built. length built.auto.rows) (λ built. count_of_nodes built.auto) result }
 
     // There is one count for each step, in order: the start of its span, and how many states and nodes its row has exactly.
     ensures counts { (tree : CoreTree) → IsCoreOf tree core.now → IfOk result (λ built. AreCounts (steps_of core.now.declared tree) limits built.counts.items) }
-
-    // The faults are those of `build`.
-    ensures within { (tree : CoreTree) → IsCoreOf tree core.now → OnOk result (IsWithinBudget (steps_of core.now.declared tree) limits) }
-    ensures states { (tree : CoreTree) (step limit : ℕ) → IsCoreOf tree core.now → result ≡ Err (States step limit)
-        → (limit ≡ limits.states) × IsOver (steps_of core.now.declared tree) limits TooManyStates step }
-    ensures nodes { (tree : CoreTree) (step limit : ℕ) → IsCoreOf tree core.now → result ≡ Err (Nodes step limit)
-        → (limit ≡ limits.nodes) × IsOver (steps_of core.now.declared tree) limits TooManyNodes step }
 {
     let mut builder = Builder::new(alloc, limits);
     builder.build_counted(core)
@@ -107,18 +85,8 @@ pub fn build_counted(alloc: Global, core: &Core, limits: Limits) -> Result<Built
 /// Its verdict needs no more than this: shortest words are found in any automaton.
 pub fn build_raw(alloc: Global, core: &Core, limits: Limits) -> Result<BuiltRaw, BuildFault>
     requires { IsCore core.now }
-
-    // It accepts the core's words over the declared variables, or those outside them.
-    ensures accepts { (tree : CoreTree) → IsCoreOf tree core.now → IfOk result (λ built. IsRawOf core.now.declared (words_of tree) built.raw built.complemented) }
-    ensures few_states { IfOk result (λ built. length built.raw.rows ≤ limits.states) }
-    ensures few_nodes { IfOk result (λ built. length built.raw.arena.nodes ≤ limits.nodes) }
-
-    // It comes where the automaton of `build` does, and the faults are those of `build`.
-    ensures within { (tree : CoreTree) → IsCoreOf tree core.now → OnOk result (IsWithinBudget (steps_of core.now.declared tree) limits) }
-    ensures states { (tree : CoreTree) (step limit : ℕ) → IsCoreOf tree core.now → result ≡ Err (States step limit)
-        → (limit ≡ limits.states) × IsOver (steps_of core.now.declared tree) limits TooManyStates step }
-    ensures nodes { (tree : CoreTree) (step limit : ℕ) → IsCoreOf tree core.now → result ≡ Err (Nodes step limit)
-        → (limit ≡ limits.nodes) × IsOver (steps_of core.now.declared tree) limits TooManyNodes step }
+    ensures { Builds core.now limits (λ words built. IsRawOf core.now.declared words built.raw built.complemented)
+        (λ built. length built.raw.rows) (λ built. length built.raw.arena.nodes) result }
 {
     let mut builder = Builder::new(alloc, limits);
     builder.build_raw(core)
@@ -140,14 +108,7 @@ impl Builder {
     pub fn build(&mut self, core: &Core) -> Result<Auto, BuildFault>
         requires { IsCore core.now }
         ensures same { self.new ≡ self.old }
-        ensures canonical { (tree : CoreTree) → IsCoreOf tree core.now → IfOk result (IsAutomatonOf core.now.declared (words_of tree)) }
-        ensures few_states { IfOk result (λ auto. length auto.rows ≤ self.old.states) }
-        ensures few_nodes { IfOk result (λ auto. count_of_nodes auto ≤ self.old.nodes) }
-        ensures within { (tree : CoreTree) → IsCoreOf tree core.now → OnOk result (IsWithinBudget (steps_of core.now.declared tree) self.old) }
-        ensures states { (tree : CoreTree) (step limit : ℕ) → IsCoreOf tree core.now → result ≡ Err (States step limit)
-            → (limit ≡ self.old.states) × IsOver (steps_of core.now.declared tree) self.old TooManyStates step }
-        ensures nodes { (tree : CoreTree) (step limit : ℕ) → IsCoreOf tree core.now → result ≡ Err (Nodes step limit)
-            → (limit ≡ self.old.nodes) × IsOver (steps_of core.now.declared tree) self.old TooManyNodes step }
+        ensures builds { Builds core.now self.old (IsAutomatonOf core.now.declared) (λ auto. length auto.rows) count_of_nodes result }
     {
         match self.build_counted(core) {
             Ok(built) => Ok(built.auto),
@@ -159,15 +120,9 @@ impl Builder {
     pub fn build_counted(&mut self, core: &Core) -> Result<Built, BuildFault>
         requires { IsCore core.now }
         ensures same { self.new ≡ self.old }
-        ensures canonical { (tree : CoreTree) → IsCoreOf tree core.now → IfOk result (λ built. IsAutomatonOf core.now.declared (words_of tree) built.auto) }
-        ensures few_states { IfOk result (λ built. length built.auto.rows ≤ self.old.states) }
-        ensures few_nodes { IfOk result (λ built. count_of_nodes built.auto ≤ self.old.nodes) }
+        ensures builds { Builds core.now self.old (λ words built. IsAutomatonOf core.now.declared words built.auto)
+            (λ built. length built.auto.rows) (λ built. count_of_nodes built.auto) result }
         ensures counts { (tree : CoreTree) → IsCoreOf tree core.now → IfOk result (λ built. AreCounts (steps_of core.now.declared tree) self.old built.counts.items) }
-        ensures within { (tree : CoreTree) → IsCoreOf tree core.now → OnOk result (IsWithinBudget (steps_of core.now.declared tree) self.old) }
-        ensures states { (tree : CoreTree) (step limit : ℕ) → IsCoreOf tree core.now → result ≡ Err (States step limit)
-            → (limit ≡ self.old.states) × IsOver (steps_of core.now.declared tree) self.old TooManyStates step }
-        ensures nodes { (tree : CoreTree) (step limit : ℕ) → IsCoreOf tree core.now → result ≡ Err (Nodes step limit)
-            → (limit ≡ self.old.nodes) × IsOver (steps_of core.now.declared tree) self.old TooManyNodes step }
     {
         let last = last_operator(core);
         let mut building = Building::new(self.alloc, self.limits);
@@ -184,14 +139,8 @@ impl Builder {
     pub fn build_raw(&mut self, core: &Core) -> Result<BuiltRaw, BuildFault>
         requires { IsCore core.now }
         ensures same { self.new ≡ self.old }
-        ensures accepts { (tree : CoreTree) → IsCoreOf tree core.now → IfOk result (λ built. IsRawOf core.now.declared (words_of tree) built.raw built.complemented) }
-        ensures few_states { IfOk result (λ built. length built.raw.rows ≤ self.old.states) }
-        ensures few_nodes { IfOk result (λ built. length built.raw.arena.nodes ≤ self.old.nodes) }
-        ensures within { (tree : CoreTree) → IsCoreOf tree core.now → OnOk result (IsWithinBudget (steps_of core.now.declared tree) self.old) }
-        ensures states { (tree : CoreTree) (step limit : ℕ) → IsCoreOf tree core.now → result ≡ Err (States step limit)
-            → (limit ≡ self.old.states) × IsOver (steps_of core.now.declared tree) self.old TooManyStates step }
-        ensures nodes { (tree : CoreTree) (step limit : ℕ) → IsCoreOf tree core.now → result ≡ Err (Nodes step limit)
-            → (limit ≡ self.old.nodes) × IsOver (steps_of core.now.declared tree) self.old TooManyNodes step }
+        ensures builds { Builds core.now self.old (λ words built. IsRawOf core.now.declared words built.raw built.complemented)
+            (λ built. length built.raw.rows) (λ built. length built.raw.arena.nodes) result }
     {
         let last = last_operator(core);
         let mut building = Building::new(self.alloc, self.limits);

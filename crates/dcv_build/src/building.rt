@@ -1,7 +1,7 @@
 // The steps of a core, built one after another. A step takes the automata of its operands from the end of those that wait, and its own
 // waits in their place. That of the last operator goes on no shelf: it is handed out as it is, or minimised, and turned where it is by the
 // `!` after it.
-ghost use Rattle.std.specs.Prelude.{◌≡◌, ◌<◌, ◌≤◌, ◌+◌, [], ℕ, Err, List, length, IfOk, OnOk};
+ghost use Rattle.std.specs.Prelude.{◌≡◌, ◌<◌, ◌≤◌, ◌+◌, [], ℕ, List, length, IfOk, IfErr, OnOk};
 ghost use Rattle.dcv_atoms.specs.AtomRows.{atom_machine};
 ghost use Rattle.dcv_atoms.specs.Parts.{atom_nodes};
 ghost use Rattle.dcv_atoms.specs.Steps.{IsAtom};
@@ -9,12 +9,10 @@ ghost use Rattle.dcv_core.specs.Core.{CoreTree, PlainBasic};
 ghost use Rattle.dcv_core.specs.Steps.{OpNot, steps_of};
 ghost use Rattle.dcv_dfa.specs.Raw.{RawValue};
 ghost use Rattle.dcv_language.specs.declared.count.Count.{Count as CountValue};
-ghost use Rattle.dcv_explore.specs.Budget.{TooManyStates, TooManyNodes};
 ghost use Rattle.dcv_explore.specs.declared.explorer.Limits.{Limits as AnyLimits};
 ghost use Rattle.dcv_shelf.specs.Shelf.{KeepsNumbers};
-ghost use Rattle.dcv_build.specs.declared.faults.BuildFault.TheVariants.{States, Nodes};
 ghost use Rattle.dcv_build.specs.Asked.{tables_at, AreThere};
-ghost use Rattle.dcv_build.specs.Budget.{IsOver};
+ghost use Rattle.dcv_build.specs.Budget.{IsFaultOver};
 ghost use Rattle.dcv_build.specs.Building.{IsBuilding, ForTree, Goes, GoesWith, Makes, IsGoal, IsExploredGoal, IsRawGoal, IsNoted};
 ghost use Rattle.dcv_build.specs.Tasks.{Here, TurnFrom, IsNoComplement};
 ghost use Rattle.dcv_build.specs.Settled.{Answers, Settles};
@@ -84,10 +82,7 @@ impl Building {
         requires operator { IsNoComplement core.now last }
         requires begun { IsBuilding core.now 0 self.old }
         ensures goal { IfOk result (λ explored. IsExploredGoal core.now self.old.known.limits (last + 1) explored.raw self.new.counts.items) }
-        ensures states { (tree : CoreTree) (step limit : ℕ) → IsCoreOf tree core.now → result ≡ Err (States step limit)
-            → (limit ≡ self.old.known.limits.states) × IsOver (steps_of core.now.declared tree) self.old.known.limits TooManyStates step }
-        ensures nodes { (tree : CoreTree) (step limit : ℕ) → IsCoreOf tree core.now → result ≡ Err (Nodes step limit)
-            → (limit ≡ self.old.known.limits.nodes) × IsOver (steps_of core.now.declared tree) self.old.known.limits TooManyNodes step }
+        ensures over { (tree : CoreTree) → IsCoreOf tree core.now → IfErr result (IsFaultOver (steps_of core.now.declared tree) self.old.known.limits) }
     {
         self.take_steps(core, last)?;
         let explored = self.make(core, last)?;
@@ -124,10 +119,7 @@ impl Building {
         requires begun { IsBuilding core.now 0 self.old }
         ensures limits { self.new.known.limits ≡ self.old.known.limits }
         ensures built { OnOk result (IsBuilding core.now end self.new) }
-        ensures states { (tree : CoreTree) (step limit : ℕ) → IsCoreOf tree core.now → result ≡ Err (States step limit)
-            → (limit ≡ self.old.known.limits.states) × IsOver (steps_of core.now.declared tree) self.old.known.limits TooManyStates step }
-        ensures nodes { (tree : CoreTree) (step limit : ℕ) → IsCoreOf tree core.now → result ≡ Err (Nodes step limit)
-            → (limit ≡ self.old.known.limits.nodes) × IsOver (steps_of core.now.declared tree) self.old.known.limits TooManyNodes step }
+        ensures over { (tree : CoreTree) → IsCoreOf tree core.now → IfErr result (IsFaultOver (steps_of core.now.declared tree) self.old.known.limits) }
     {
         for step in 0..end {
             self.make_room()?;

@@ -1,4 +1,5 @@
 use Rattle.std.proofs.Common.{Err, ap, ◌∙◌, arith}
+use Rattle.std.proofs.lemmas.Result.{IfErr-at_err}
 use Rattle.dcv_explore.specs.Budget.{TooManyStates, TooManyNodes}
 use Rattle.dcv_sweep.proofs.findings.find.Goals as goal
 
@@ -7,7 +8,7 @@ returns-in-Err-States c = record {
   finding = λ tree of. record {
     kind = TooManyStates;
     number = _;
-    is_over = (c.build.ensures.states tree _ _ of (c.in-Err-States.is ∙ ap Err c.in-Err-States.field-0-is)).1;
+    is_over = (IfErr-at_err _ (c.in-Err-States.is ∙ ap Err c.in-Err-States.field-0-is) (c.build.ensures.over tree of)).1;
   };
   few = omega arith;
 }
@@ -17,7 +18,7 @@ returns-in-Err-Nodes c = record {
   finding = λ tree of. record {
     kind = TooManyNodes;
     number = _;
-    is_over = (c.build.ensures.nodes tree _ _ of (c.in-Err-Nodes.is ∙ ap Err c.in-Err-Nodes.field-0-is)).1;
+    is_over = (IfErr-at_err _ (c.in-Err-Nodes.is ∙ ap Err c.in-Err-Nodes.field-0-is) (c.build.ensures.over tree of)).1;
   };
   few = omega arith;
 }

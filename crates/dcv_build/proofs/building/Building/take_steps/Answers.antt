@@ -1,12 +1,9 @@
-use Rattle.std.proofs.Common.{◌≡◌, Err, ap, subst, ◌∙◌, arith}
-use Rattle.std.proofs.lemmas.Result.{err_from_is_err_and}
+use Rattle.std.proofs.Common.{◌≡◌, IfErr, subst, ◌∙◌, arith}
 use Rattle.dcv_core.specs.Steps.{steps_of}
 use Rattle.dcv_explore.specs.declared.explorer.Limits.{Limits}
-use Rattle.dcv_explore.specs.Budget.{TooManyStates, TooManyNodes}
-use Rattle.dcv_build.specs.declared.faults.BuildFault.TheVariants.{States, Nodes}
-use Rattle.dcv_build.specs.Budget.{IsOver}
+use Rattle.dcv_build.specs.Budget.{IsFaultOver}
 use Rattle.dcv_build.specs.Building.{IsBuilding}
-use Rattle.dcv_build.proofs.FaultFacts.{same_fault}
+use Rattle.dcv_build.proofs.FaultFacts.{handed_on}
 use Rattle.dcv_build.proofs.Moves.{still_building, pushes}
 use Rattle.dcv_build.proofs.building.Building.take_steps.Goals as goal
 
@@ -23,17 +20,10 @@ push-requires-clause-goes c =
     pushes c.args.core.now c.loop-step.step c.make_room.new.self c.take_step.new.self c.take_step.result c.in_ok-answer.answer c.in_ok-answer.was c.take_step.ensures.limits c.take_step.ensures.counts
     c.take_step.ensures.goes
 
-pub returns-in_err-answer-clause-states : goal.returns-in_err-answer-clause-states
-returns-in_err-answer-clause-states c tree step limit is e =
-    let p = err_from_is_err_and c.from_residual-in_err-answer.result c.from_residual-in_err-answer.ensures.1 in
-    let named = (c.take_step.ensures.goes tree is).states step limit (c.in_err-answer.was ∙ ap Err (same_fault _ _ _ (States step limit) p.1 p.2 e)) in
-    subst (λ (l : Limits). (limit ≡ l.states) × IsOver (steps_of c.args.core.now.declared tree) l TooManyStates step) (c.make_room.ensures.limits ∙ c.loop-step.invariant.limits) named
-
-pub returns-in_err-answer-clause-nodes : goal.returns-in_err-answer-clause-nodes
-returns-in_err-answer-clause-nodes c tree step limit is e =
-    let p = err_from_is_err_and c.from_residual-in_err-answer.result c.from_residual-in_err-answer.ensures.1 in
-    let named = (c.take_step.ensures.goes tree is).nodes step limit (c.in_err-answer.was ∙ ap Err (same_fault _ _ _ (Nodes step limit) p.1 p.2 e)) in
-    subst (λ (l : Limits). (limit ≡ l.nodes) × IsOver (steps_of c.args.core.now.declared tree) l TooManyNodes step) (c.make_room.ensures.limits ∙ c.loop-step.invariant.limits) named
+pub returns-in_err-answer-clause-over : goal.returns-in_err-answer-clause-over
+returns-in_err-answer-clause-over c tree is =
+    subst (λ (l : Limits). IfErr c.from_residual-in_err-answer.result (IsFaultOver (steps_of c.args.core.now.declared tree) l)) (c.make_room.ensures.limits ∙ c.loop-step.invariant.limits)
+    (handed_on _ c.take_step.result _ c.from_residual-in_err-answer.result (c.take_step.ensures.goes tree is).over c.in_err-answer.was c.from_residual-in_err-answer.ensures.1)
 
 pub returns-clause-built : goal.returns-clause-built
 returns-clause-built c =

@@ -14,8 +14,7 @@ returns-in_ok-recall-in-Some-clause-serves c =
     let row = asked_row old.tables c.args.asked in
     record {
       built = recalled_serves c.one_canonical_table.ensures row.machine row.parts old.limits old.tables c.in-Some.answer c.in_ok-recall-in-Some.field-0 c.in-Some.ensures.is_for c.in_ok-recall-in-Some.ensures;
-      states = λ at limit same. absurd cc;
-      nodes = λ at limit same. absurd cc;
+      over = tt;
     }
 
 pub returns-in-None-clause-serves : goal.returns-in-None-clause-serves
