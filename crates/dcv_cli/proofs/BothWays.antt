@@ -20,13 +20,13 @@ record Includes (first second : List ℕ) : Type 0 where
   included : IsIncluded (length file.variables) (models file) (models other_file)
 
 -- no refusal is this answer
-no_refusal : (refusal : Refusal) (which : Which) (outcome : Outcome) → outcome ≡ refused refusal which → outcome.status ≡ Valid → ⊥
+pub no_refusal : (refusal : Refusal) (which : Which) (outcome : Outcome) → outcome ≡ refused refusal which → outcome.status ≡ Valid → ⊥
 no_refusal refusal which outcome e valid = no_refusal_answers refusal (ap is_answer (sym (ap (λ (o : Outcome). o.status) e) ∙ valid))
 
-status_is : (outcome other : Outcome) → outcome ≡ other → outcome.status ≡ Valid → other.status ≡ Valid
+pub status_is : (outcome other : Outcome) → outcome ≡ other → outcome.status ≡ Valid → other.status ≡ Valid
 status_is outcome other e valid = sym (ap (λ (o : Outcome). o.status) e) ∙ valid
 
-valid_is_none : (least : Option Word) → status_of_least least ≡ Valid → least ≡ None
+pub valid_is_none : (least : Option Word) → status_of_least least ≡ Valid → least ≡ None
 valid_is_none None is = refl
 valid_is_none (Some word) is = let wrong : NotValid ≡ Valid = is in cc
 

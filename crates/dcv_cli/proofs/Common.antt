@@ -31,7 +31,7 @@ pub use Rattle.dcv_cli.specs.FormulaFile.{Faulty, HasNoCore, IsFormulaFile, IsRe
 pub use Rattle.dcv_cli.specs.Held.{ForHeld, IsHeldText, IsTooLongText, OnHeld, Texts}
 pub use Rattle.dcv_cli.specs.Judged.{IsJudged, Reports}
 pub use Rattle.dcv_cli.specs.ObserverFile.{IsFaultIn, IsObserverText, IsRefusedObserver, OnObserver}
-pub use Rattle.dcv_cli.specs.Outcome.{Agrees, IsExplained, Outcome, refused}
+pub use Rattle.dcv_cli.specs.Outcome.{IsExplained, Outcome, refused}
 pub use Rattle.dcv_cli.specs.Outside.{Outside, of_files, outside}
 pub use Rattle.dcv_cli.specs.Performed.{Answers, LeavesFor, Performs, Takes, ending}
 pub use Rattle.dcv_cli.specs.Refusal.{excess_word_of, is_of_text, is_open, is_read, message_of, most_automaton_bytes, most_bytes, most_observer_bytes, only, refusal_of_observer, refusal_of_reading, refusal_of_scope, status_of}
@@ -100,8 +100,8 @@ pub use Rattle.dcv_logic.specs.Models.{models}
 pub use Rattle.dcv_lustre.specs.Observer.{observer_of as node_of}
 pub use Rattle.dcv_observer.specs.declared.fault.ObsFault.{ObsFault}
 pub use Rattle.dcv_print.specs.Counts.{ArePrintableCounts}
-pub use Rattle.dcv_print.specs.Laws.{AutomatonOfSameBehaviours, FileOfSameBehaviours, FileSaysNode, FileSaysUnit, OneAutomaton, PrintedIsAutomaton}
-pub use Rattle.dcv_print.specs.Observers.{IsFileOf, SaysNode, SaysUnit}
+pub use Rattle.dcv_print.specs.Laws.{AutomatonOfSameBehaviours, NodeOfSameBehaviours, OneAutomaton, OneNode, OneUnit, PrintedIsAutomaton, PrintedSaysNode, PrintedSaysUnit, UnitOfSameBehaviours}
+pub use Rattle.dcv_print.specs.Observers.{SaysNode, SaysUnit}
 pub use Rattle.dcv_print.specs.Printed.{printed_file, texts_of}
 pub use Rattle.dcv_print.specs.Report.{ReportValue, Says as SaysOf}
 pub use Rattle.dcv_print.specs.Sections.{all_text}

@@ -1,23 +1,22 @@
 -- A text of version 1 that is converted to version 2 and back is as it was; and one outcome at most is right where a text is converted.
-use Rattle.dcv_cli.proofs.Common.{◌≡◌, ℕ, List, ◌++◌, Option, None, Some, refl, sym, ap, ◌∙◌, subst, inl, arith, IsSomeAnd, codes, StepPart}
+use Rattle.dcv_cli.proofs.Common.{◌≡◌, ℕ, List, ◌++◌, Option, None, Some, refl, sym, ap, ◌∙◌, subst, arith, IsSomeAnd, codes, StepPart}
 use Rattle.dcv_cli.proofs.Common.{AutomatonFile, HasForm, OneFile, first_version, second_version, Version, IsAutomatonText, OnAutomaton}
-use Rattle.dcv_cli.proofs.Common.{IsConverted, as_version, Outcome, Agrees, Done, StatusAutomaton}
+use Rattle.dcv_cli.proofs.Common.{IsConverted, as_version, Outcome, Done, StatusAutomaton}
 use Rattle.std.specs.Prelude.{slice_index_or}
 use Rattle.dcv_automaton_text.specs.Laws.{VersionsStandForTheSame, SecondAndBackIsTheText}
 use Rattle.dcv_automaton_text.specs.Spelled.{spelled, lines_of}
 use Rattle.dcv_command.specs.declared.words.Version.TheVariants.{One, Two}
 use Rattle.dcv_cli.specs.AutomatonFile.{Refused, Read}
 use Rattle.dcv_cli.specs.Laws.{ConvertedBackIsTheText, IsConversionOf}
-use Rattle.dcv_cli.proofs.OneCertificate.{one_on_automaton, refuses_as_automaton}
+use Rattle.dcv_cli.proofs.OneCertificate.{same_outcome, one_on_automaton, refuses_as_automaton}
 
 -- ---- one outcome
 
-one_conversion : (to : Version) (file : AutomatonFile) (a b : Outcome) → IsConverted to file a → IsConverted to file b → Agrees a b
-one_conversion to file a b p q =
-    record { status = p.status ∙ sym q.status; report = inl (p.says ∙ sym q.says); message = λ taken. inl (p.no_message ∙ sym q.no_message) }
+one_conversion : (to : Version) (file : AutomatonFile) (a b : Outcome) → IsConverted to file a → IsConverted to file b → a ≡ b
+one_conversion to file a b p q = same_outcome a b (p.status ∙ sym q.status) (p.says ∙ sym q.says) (p.no_message ∙ sym q.no_message)
 
 pub one_held_conversion : OneFile → (to : Version) (text : Option (List ℕ)) (a b : Outcome) → IsSomeAnd text (λ bytes. OnAutomaton bytes (IsConverted to) a)
-    → IsSomeAnd text (λ bytes. OnAutomaton bytes (IsConverted to) b) → Agrees a b
+    → IsSomeAnd text (λ bytes. OnAutomaton bytes (IsConverted to) b) → a ≡ b
 one_held_conversion one_file to None a b p q = absurd p
 one_held_conversion one_file to (Some text) a b p q = one_on_automaton one_file text (IsConverted to) (one_conversion to) a b p q
 

@@ -4,11 +4,10 @@ use Rattle.dcv_lustre.specs.Observer.{observer_of as node_of}
 use Rattle.dcv_cli.proofs.Common.{◌≡◌, ◌↔◌, ℕ, Bool, true, false, List, length, map, Option, None, Some, refl, sym, ap, ◌∙◌, subst}
 use Rattle.dcv_cli.proofs.Common.{IsSomeAnd, not, false≢true, Word, PlainFile, models, Language, IsLeastOf, Verdict, verdict_text}
 use Rattle.dcv_cli.proofs.Common.{SpellsOne, core_of_file, AutomatonFile, Limits, WithinExcludesOver, IsWithinBudget}
-use Rattle.dcv_cli.proofs.Common.{IsFileOf, texts_of, all_text, All, Request, Report, Only, Status, Valid, NotValid, steps_of_file, kind_of}
+use Rattle.dcv_cli.proofs.Common.{texts_of, all_text, All, Request, Report, Only, Status, Valid, NotValid, steps_of_file, kind_of}
 use Rattle.dcv_cli.proofs.Common.{IsBudgeted, OverBudget, WithinBudget, IsFormulaFile, OnText, Refused, Read, Outcome, IsReport, Fulfils}
 use Rattle.dcv_cli.proofs.Common.{Misused, Fulfilled, status_of_verdict}
 use Rattle.dcv_language.specs.Language.{HasEvery, outside}
-use Rattle.dcv_automaton_file.specs.File.{file_of}
 use Rattle.dcv_lustre.specs.Observer.{input_names}
 use Rattle.dcv_c.specs.Observer.{parameter_name}
 use Rattle.dcv_print.specs.Laws.{AutomatonHasFewestStates}
@@ -51,11 +50,6 @@ unit_parameters_are : (file : AutomatonFile) → (unit_of file).parameters ≡ m
 unfolding unit_of
 unit_parameters_are file = refl
 
--- the file of an observer has the names that it was made with
-names_are : (k : ℕ) (L : Language) (names : List (List ℕ)) (file : AutomatonFile) → IsFileOf k L names file → file.names ≡ names
-unfolding file_of
-names_are k L names file of = ap (λ (f : AutomatonFile). f.names) of.is
-
 -- ---- what is said
 
 module _ (fewest : AutomatonHasFewestStates) where
@@ -80,12 +74,10 @@ module _ (fewest : AutomatonHasFewestStates) where
         certificate = automaton.is.certificate;
         variables = automaton.is.variables;
         node_read = says.says_node.read;
-        node_inputs = node_inputs_are says.says_node.file
-            ∙ ap input_names (names_are k (models file) (texts_of file.variables) says.says_node.file says.says_node.of);
+        node_inputs = node_inputs_are says.says_node.file ∙ ap input_names says.says_node.of.variables;
         node_observes = says.says_node.observes;
         unit_read = says.says_unit.read;
-        unit_parameters = unit_parameters_are says.says_unit.file
-            ∙ ap (map parameter_name) (names_are k (models file) (texts_of file.variables) says.says_unit.file says.says_unit.of);
+        unit_parameters = unit_parameters_are says.says_unit.file ∙ ap (map parameter_name) says.says_unit.of.variables;
         unit_observes = says.says_unit.observes;
         valid = (λ e. valid.0 (sym is.status ∙ e), λ every. is.status ∙ valid.1 every);
         not_valid = (λ e. not_valid.0 (sym is.status ∙ e), λ some. is.status ∙ not_valid.1 some);

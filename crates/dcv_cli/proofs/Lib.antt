@@ -10,6 +10,7 @@ pub mod Endings
 pub mod EqualMeanings
 pub mod FormulaFiles
 pub mod Headline
+pub mod NeverStuck
 pub mod OneCertificate
 pub mod OneOutcome
 pub mod OneReplay

@@ -3,7 +3,7 @@ use Rattle.dcv_cli.proofs.Common.{◌≡◌, ◌⊎◌, inl, inr, refl, ℕ, ◌
 use Rattle.dcv_cli.proofs.Common.{subst, arith, IsSomeAnd, Subset, InLustre, InC, ObsFault}
 use Rattle.dcv_cli.proofs.Common.{OneTraceVerdict as OneVerdict, SomeVerdict, OneTextOfAnswers as OneText, GoodLinesAreAnswered, Observer}
 use Rattle.dcv_cli.proofs.Common.{width_of, AreAnswers, good_letters, Refusal, Only, IsFaultIn, IsRefusedObserver, IsObserverText}
-use Rattle.dcv_cli.proofs.Common.{OnObserver, Outcome, Agrees, refused, most_observer_bytes, refusal_of_observer, IsReplay, fault_of_trace}
+use Rattle.dcv_cli.proofs.Common.{OnObserver, Outcome, refused, most_observer_bytes, refusal_of_observer, IsReplay, fault_of_trace}
 use Rattle.dcv_cli.proofs.Common.{status_of_trace, message_of_trace}
 use Rattle.std.proofs.lemmas.Bool.{cases_lt}
 use Rattle.dcv_c.specs.Laws as c
@@ -15,7 +15,7 @@ use Rattle.dcv_replay.specs.TraceText.{Verdict}
 use Rattle.dcv_cli.specs.declared.refusal.Refusal.TheVariants.{Observer as ObserverRefusal}
 use Rattle.dcv_cli.specs.declared.faults.ObserverFault.TheVariants.{Length}
 use Rattle.dcv_cli.specs.ObserverFile.{IsObserverIn, TooLong, Faulty, Refused, Read}
-use Rattle.dcv_cli.proofs.OneCertificate.{same_agrees}
+use Rattle.dcv_cli.proofs.OneCertificate.{same_outcome}
 use Rattle.dcv_cli.proofs.Replays.{keeps_the_rules}
 
 -- what is known of the texts of both subsets
@@ -59,34 +59,31 @@ module _ (subsets : AreSubsets) where
   refused_or_read subset text refusal observer (Faulty short fault has e) is = fault_or_observer subset text fault observer has is.read
 
   one_on_observer : (subset : Subset) (text : List ℕ) (RightFor : Observer → Outcome → Type 0)
-      → ((observer : Observer) (a b : Outcome) → RightFor observer a → RightFor observer b → Agrees a b)
-      → (a b : Outcome) → OnObserver subset text RightFor a → OnObserver subset text RightFor b → Agrees a b
-  one_on_observer subset text RightFor one a b (Refused r is e) (Refused s is' e') =
-      same_agrees a b (e ∙ ap (λ r. refused r Only) (one_refusal subset text r s is is') ∙ sym e')
+      → ((observer : Observer) (a b : Outcome) → RightFor observer a → RightFor observer b → a ≡ b)
+      → (a b : Outcome) → OnObserver subset text RightFor a → OnObserver subset text RightFor b → a ≡ b
+  one_on_observer subset text RightFor one a b (Refused r is e) (Refused s is' e') = e ∙ ap (λ r. refused r Only) (one_refusal subset text r s is is') ∙ sym e'
   one_on_observer subset text RightFor one a b (Refused r is e) (Read observer is' right) = absurd (refused_or_read subset text r observer is is')
   one_on_observer subset text RightFor one a b (Read observer is right) (Refused s is' e') = absurd (refused_or_read subset text s observer is' is)
   one_on_observer subset text RightFor one a b (Read observer is right) (Read other is' right') =
       one observer a b right (subst (λ (o : Observer). RightFor o b) (one_observer subset text other observer is'.read is.read) right')
 
   module _ (one_verdict : OneVerdict) (one_text : OneText) where
-    one_replay : (observer : Observer) (trace : List ℕ) (a b : Outcome) → IsReplay observer trace a → IsReplay observer trace b → Agrees a b
+    one_replay : (observer : Observer) (trace : List ℕ) (a b : Outcome) → IsReplay observer trace a → IsReplay observer trace b → a ≡ b
     one_replay observer trace a b p q =
         let same : q.verdict ≡ p.verdict = one_verdict (width_of observer) trace q.verdict p.verdict q.is_verdict p.is_verdict in
         let answers = subst (λ (verdict : Verdict). AreAnswers observer [] (good_letters verdict) b.out) same q.answers in
-        record {
-          status = p.status ∙ ap (λ verdict. status_of_trace (fault_of_trace verdict)) (sym same) ∙ sym q.status;
-          report = inl (one_text observer [] (good_letters p.verdict) a.out b.out p.answers answers);
-          message = λ taken. inl (p.message ∙ ap (λ verdict. message_of_trace (fault_of_trace verdict)) (sym same) ∙ sym q.message);
-        }
+        same_outcome a b (p.status ∙ ap (λ verdict. status_of_trace (fault_of_trace verdict)) (sym same) ∙ sym q.status)
+        (one_text observer [] (good_letters p.verdict) a.out b.out p.answers answers)
+        (p.message ∙ ap (λ verdict. message_of_trace (fault_of_trace verdict)) (sym same) ∙ sym q.message)
 
     one_on_trace : (trace : Option (List ℕ)) (observer : Observer) (a b : Outcome) → IsSomeAnd trace (λ text. IsReplay observer text a)
-        → IsSomeAnd trace (λ text. IsReplay observer text b) → Agrees a b
+        → IsSomeAnd trace (λ text. IsReplay observer text b) → a ≡ b
     one_on_trace None observer a b p q = absurd p
     one_on_trace (Some trace) observer a b p q = one_replay observer trace a b p q
 
     pub one_held_replay : (subset : Subset) (text trace : Option (List ℕ)) (a b : Outcome)
         → IsSomeAnd text (λ bytes. OnObserver subset bytes (λ one outcome. IsSomeAnd trace (λ t. IsReplay one t outcome)) a)
-        → IsSomeAnd text (λ bytes. OnObserver subset bytes (λ one outcome. IsSomeAnd trace (λ t. IsReplay one t outcome)) b) → Agrees a b
+        → IsSomeAnd text (λ bytes. OnObserver subset bytes (λ one outcome. IsSomeAnd trace (λ t. IsReplay one t outcome)) b) → a ≡ b
     one_held_replay subset None trace a b p q = absurd p
     one_held_replay subset (Some text) trace a b p q =
         one_on_observer subset text (λ one outcome. IsSomeAnd trace (λ t. IsReplay one t outcome)) (λ observer. one_on_trace trace observer) a b p q

@@ -1,11 +1,12 @@
 -- One controller, or one strategy, is right for a file.
-use Rattle.dcv_cli.proofs.Common.{◌≡◌, ℕ, ◌+◌, ◌-◌, List, ◌++◌, codes, inl, length, sym, ap, ◌∙◌, subst, take, decimal, flat_map, PlainFile}
-use Rattle.dcv_cli.proofs.Common.{models, Language, Table, automaton_of, line, text_of, CUnit, IsControlOf, IsUnrealisable, Outcome, Agrees}
+use Rattle.dcv_cli.proofs.Common.{◌≡◌, ℕ, ◌+◌, ◌-◌, List, ◌++◌, codes, length, sym, ap, ◌∙◌, subst, take, decimal, flat_map, PlainFile}
+use Rattle.dcv_cli.proofs.Common.{models, Language, Table, automaton_of, line, text_of, CUnit, IsControlOf, IsUnrealisable, Outcome}
 use Rattle.dcv_cli.proofs.Common.{controller_text, move_line, strategy_text, SaysController, SaysStrategy, IsSynthesis, Realisable}
 use Rattle.dcv_cli.proofs.Common.{Unrealisable, IsSynthesisOf}
 use Rattle.dcv_language.specs.Laws.{OneCanonicalTable}
 use Rattle.dcv_automaton_file.specs.File.{texts_of}
 use Rattle.dcv_synth.specs.Laws.{NotBothAreRight, OneStrategyIsRight, OneUnitIsRight}
+use Rattle.dcv_cli.proofs.OneCertificate.{same_outcome}
 
 module _ (one_table : OneCanonicalTable) (one_unit : OneUnitIsRight) (one_strategy : OneStrategyIsRight) (not_both : NotBothAreRight) where
   module _ (n m : ℕ) (L : Language) (names : List (List ℕ)) where
@@ -31,13 +32,13 @@ module _ (one_table : OneCanonicalTable) (one_unit : OneUnitIsRight) (one_strate
         let table = (one_table (n + m) L x.table y.table x.access y.access x.canonical y.canonical).0 in
         not_both n m (automaton_of y.table) y.strategy (subst (λ (table : Table). IsControlOf n m (automaton_of table) x.control) table x.least).realisable y.least
 
-    one_synthesis : (a b : Outcome) → IsSynthesis n m L names a → IsSynthesis n m L names b → Agrees a b
+    one_synthesis : (a b : Outcome) → IsSynthesis n m L names a → IsSynthesis n m L names b → a ≡ b
     one_synthesis a b (Realisable x status message) (Realisable y status' message') =
-        record { status = status ∙ sym status'; report = inl (one_controller a.out b.out x y); message = λ taken. inl (message ∙ sym message') }
+        same_outcome a b (status ∙ sym status') (one_controller a.out b.out x y) (message ∙ sym message')
     one_synthesis a b (Realisable x status message) (Unrealisable y status' message') = absurd (not_both_are_said a.out b.out x y)
     one_synthesis a b (Unrealisable x status message) (Realisable y status' message') = absurd (not_both_are_said b.out a.out y x)
     one_synthesis a b (Unrealisable x status message) (Unrealisable y status' message') =
-        record { status = status ∙ sym status'; report = inl (one_list_of_moves a.out b.out x y); message = λ taken. inl (message ∙ sym message') }
+        same_outcome a b (status ∙ sym status') (one_list_of_moves a.out b.out x y) (message ∙ sym message')
 
-  pub one_synthesis_of : (inputs : ℕ) (file : PlainFile) (a b : Outcome) → IsSynthesisOf inputs file a → IsSynthesisOf inputs file b → Agrees a b
+  pub one_synthesis_of : (inputs : ℕ) (file : PlainFile) (a b : Outcome) → IsSynthesisOf inputs file a → IsSynthesisOf inputs file b → a ≡ b
   one_synthesis_of inputs file a b x y = one_synthesis inputs (length file.variables - inputs) (models file) (take inputs (texts_of file.variables)) a b x y

@@ -3,14 +3,14 @@
 use Rattle.dcv_cli.proofs.Common.{◌≡◌, inl, inr, ℕ, List, [], length, refl, sym, ◌∙◌, arith, length-map, Word, Count, IsCanonical}
 use Rattle.dcv_cli.proofs.Common.{HaveSameBehaviours, ComplementIsCanonical, Table, Verdict, IsVerdict, WordLaws, HasFile, AreNames}
 use Rattle.dcv_cli.proofs.Common.{IsWithinBudget, AreCounts, MachineAcceptsStep, AreInRange, RawValue, raw_accepts, Limits, models}
-use Rattle.dcv_cli.proofs.Common.{ArePrintableCounts, PrintedIsAutomaton, FileSaysNode, FileSaysUnit, AutomatonOfSameBehaviours, texts_of}
+use Rattle.dcv_cli.proofs.Common.{ArePrintableCounts, texts_of}
 use Rattle.dcv_cli.proofs.Common.{Kind, NamesAreShort, core_of_file, WordsAreModels, StepsAreFew, PlainFile, steps_of_file, IsBudgeted}
 use Rattle.dcv_cli.proofs.Common.{WithinBudget, IsFormulaFile, Outcome, IsReport, status_of_verdict, Only, counts_within, some_verdict}
 use Rattle.dcv_cli.proofs.Common.{IsTableWithin}
 use Rattle.dcv_quotient.proofs.SomeAutomata.{some_automaton}
 use Rattle.dcv_cli.proofs.SomeBounds.{within_of_file}
 use Rattle.dcv_cli.proofs.SomeReports.{table_of_file, over_or_within}
-use Rattle.dcv_cli.proofs.SomeTexts.{some_text}
+use Rattle.dcv_cli.proofs.SomeTexts.{PrintLaws, some_text}
 use Rattle.dcv_cli.proofs.StepCounts.{printable_counts}
 use Rattle.dcv_cli.proofs.VariableNames.{are_names}
 
@@ -59,12 +59,12 @@ module _ (accept : MachineAcceptsStep) (models_are : WordsAreModels) (short : Na
       file_of_table table access (within_of_file accept models_are limits file formula.has_core within table access canonical) canonical
 
   module _ (laws : WordLaws) (outside_is : ComplementIsCanonical) (steps_are_few : StepsAreFew)
-      (printed : PrintedIsAutomaton) (say_node : FileSaysNode) (say_unit : FileSaysUnit) (move : AutomatonOfSameBehaviours) where
+      (print : PrintLaws) where
     report_on : (kind : Kind) → HasAutomaton file → (verdict : Verdict) → IsVerdict (length file.variables) (models file) verdict
         → (counts : List Count) → AreCounts (steps_of_file file) limits counts → (outcome : Outcome) × IsReport kind limits file outcome
     report_on kind has verdict is counts are =
         let printable : ArePrintableCounts counts = printable_counts steps_are_few text file formula limits range counts are in
-        let (out, says) = some_text laws printed say_node say_unit move has.raw (texts_of file.variables) has.has_file counts printable
+        let (out, says) = some_text print has.raw (texts_of file.variables) has.has_file counts printable
         (length file.variables) (models file) has.slots has.accepts kind verdict in (
           record { status = status_of_verdict verdict; out = out; err = [] },
           record { verdict = verdict; is_verdict = is; status = refl; counts = counts; are_counts = are; says = says; no_message = refl },
@@ -78,13 +78,13 @@ module _ (accept : MachineAcceptsStep) (models_are : WordsAreModels) (short : Na
         report_on kind has verdict is counts are
 
 module _ (laws : WordLaws) (accept : MachineAcceptsStep) (outside_is : ComplementIsCanonical) (models_are : WordsAreModels) (short : NamesAreShort)
-    (steps_are_few : StepsAreFew) (printed : PrintedIsAutomaton) (say_node : FileSaysNode) (say_unit : FileSaysUnit) (move : AutomatonOfSameBehaviours) where
+    (steps_are_few : StepsAreFew) (print : PrintLaws) where
   -- whether the steps are within the limits or not
   pub some_budgeted : (kind : Kind) (limits : Limits) → AreInRange limits → (text : List ℕ) (file : PlainFile) → IsFormulaFile text file
       → (outcome : Outcome) × IsBudgeted limits Only (IsReport kind limits) file outcome
   some_budgeted kind limits range text file formula = elim (over_or_within laws accept limits Only (IsReport kind limits) file) [
     | inl over ↦ over
     | inr within ↦
-        let (outcome, is) = some_report accept models_are short text file formula limits range within laws outside_is steps_are_few printed say_node say_unit move kind in
+        let (outcome, is) = some_report accept models_are short text file formula limits range within laws outside_is steps_are_few print kind in
         (outcome, WithinBudget within is)
   ]

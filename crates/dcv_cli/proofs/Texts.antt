@@ -1,15 +1,12 @@
 -- What a text says of a set: no two texts say the same, but for the suffixes of an automaton and what the steps took, and it is said of each
 -- set with the same behaviours.
-use Rattle.dcv_cli.proofs.Common.{◌≡◌, ◌⊎◌, ℕ, List, [], ◌++◌, Some, inl, inr, refl, sym, ap, ◌∙◌, subst, codes, append_assoc, IsFalse}
-use Rattle.dcv_cli.proofs.Common.{append-nil, true≢false, Language, HaveSameBehaviours, Verdict, verdict_text, AutomatonFile, unit_of}
-use Rattle.dcv_cli.proofs.Common.{node_of, Count, step_part_of, OneAutomaton, AutomatonOfSameBehaviours, FileOfSameBehaviours, FileSaysNode}
-use Rattle.dcv_cli.proofs.Common.{FileSaysUnit, SaysNode, SaysUnit, all_text, Kind, Check, Automaton, Lustre, C, All, SaysAutomaton, Says}
+use Rattle.dcv_cli.proofs.Common.{◌≡◌, ◌⊎◌, ℕ, List, [], ◌++◌, Some, inl, inr, refl, sym, ap, ◌∙◌, codes, append_assoc, IsTrue}
+use Rattle.dcv_cli.proofs.Common.{append-nil, Language, HaveSameBehaviours, Verdict, verdict_text, AutomatonFile}
+use Rattle.dcv_cli.proofs.Common.{Count, step_part_of, OneAutomaton, AutomatonOfSameBehaviours, NodeOfSameBehaviours}
+use Rattle.dcv_cli.proofs.Common.{UnitOfSameBehaviours, OneNode, OneUnit, all_text, Kind, Check, Automaton, Lustre, C, All, SaysAutomaton, Says}
 use Rattle.dcv_cli.proofs.Common.{SaysAll}
 use Rattle.dcv_automaton_text.specs.Spelled.{spelled}
-use Rattle.dcv_c.specs.Layout as c
-use Rattle.dcv_lustre.specs.Layout as lustre
 use Rattle.dcv_print.specs.Automaton.{IsAutomatonOf, AreSameUpToAccess, AreSameButForSuffixes, AreSpelledBy, DifferInSuffixes, AgreeUpToAccess}
-use Rattle.dcv_print.specs.Laws.{OneFile}
 use Rattle.dcv_cli.specs.Outcome.{has_automaton}
 
 -- ---- all in one
@@ -27,23 +24,7 @@ around_automaton verdict automaton node unit =
 
 -- ---- one text
 
-module _ (one_automaton : OneAutomaton) (one_file : OneFile) (k : ℕ) (L : Language) (names : List (List ℕ)) where
-  one_node : (one other : List ℕ) → SaysNode k L names one → SaysNode k L names other → one ≡ other
-  one_node one other says says' =
-      says.says ∙ ap (λ (file : AutomatonFile). lustre.text_of (node_of file)) (one_file k L names says.file says'.file says.of says'.of) ∙ sym says'.says
-
-  one_unit : (one other : List ℕ) → SaysUnit k L names one → SaysUnit k L names other → one ≡ other
-  one_unit one other says says' =
-      says.says ∙ ap (λ (file : AutomatonFile). c.text_of (unit_of file)) (one_file k L names says.file says'.file says.of says'.of) ∙ sym says'.says
-
-  -- where no automaton is written they are the same
-  pub one_other_text : (v u : Verdict) (counts others : List Count) (one other : List ℕ) (kind : Kind) → v ≡ u → IsFalse (has_automaton kind) → Says kind k L names counts v one
-      → Says kind k L names others u other → one ≡ other
-  one_other_text v u counts others one other Check same none says says' = says ∙ ap verdict_text same ∙ sym says'
-  one_other_text v u counts others one other Lustre same none says says' = one_node one other says says'
-  one_other_text v u counts others one other C same none says says' = one_unit one other says says'
-  one_other_text v u counts others one other _ same none says says' = absurd (true≢false none)
-
+module _ (one_automaton : OneAutomaton) (one_node : OneNode) (one_unit : OneUnit) (k : ℕ) (L : Language) (names : List (List ℕ)) where
   -- where the files of two automata are alike, whose steps took so much
   module _ (counts others : List Count) (Alike : AutomatonFile → AutomatonFile → Type 0)
       (alike : (f g : AutomatonFile) → IsAutomatonOf k L names f → IsAutomatonOf k L names g → f.steps ≡ Some (step_part_of counts)
@@ -56,7 +37,7 @@ module _ (one_automaton : OneAutomaton) (one_file : OneFile) (k : ℕ) (L : Lang
         let its_around = around_automaton (verdict_text u) says'.automaton says'.node says'.unit in
         let verdicts = ap before_automaton (ap verdict_text (sym same)) in
         let behind : behind_automaton says'.node says'.unit ≡ behind_automaton says.node says.unit =
-        λ i. behind_automaton (one_node says'.node says.node says'.says_node says.says_node i) (one_unit says'.unit says.unit says'.says_unit says.says_unit i) in
+        λ i. behind_automaton (one_node k L names says'.node says.node says'.says_node says.says_node i) (one_unit k L names says'.unit says.unit says'.says_unit says.says_unit i) in
         record {
           before = before_automaton (verdict_text v);
           behind = behind_automaton says.node says.unit;
@@ -79,14 +60,16 @@ module _ (one_automaton : OneAutomaton) (one_file : OneFile) (k : ℕ) (L : Lang
     }
 
     texts_alike : (v u : Verdict) (one other : List ℕ) (kind : Kind) → v ≡ u → Says kind k L names counts v one → Says kind k L names others u other
-        → (one ≡ other) ⊎ AreSpelledBy Alike one other
-    texts_alike v u one other Automaton same says says' = inr (alone one other says says')
-    texts_alike v u one other All same says says' = inr (in_all v u one other same says says')
-    texts_alike v u one other kind same says says' = inl (one_other_text v u counts others one other kind same refl says says')
+        → (one ≡ other) ⊎ (IsTrue (has_automaton kind) × AreSpelledBy Alike one other)
+    texts_alike v u one other Check same says says' = inl (says ∙ ap verdict_text same ∙ sym says')
+    texts_alike v u one other Automaton same says says' = inr (refl, alone one other says says')
+    texts_alike v u one other Lustre same says says' = inl (one_node k L names one other says says')
+    texts_alike v u one other C same says says' = inl (one_unit k L names one other says says')
+    texts_alike v u one other All same says says' = inr (refl, in_all v u one other same says says')
 
   -- with the same counts
   pub one_text : (v u : Verdict) (counts others : List Count) (one other : List ℕ) (kind : Kind) → v ≡ u → counts ≡ others → Says kind k L names counts v one
-      → Says kind k L names others u other → (one ≡ other) ⊎ DifferInSuffixes one other
+      → Says kind k L names others u other → (one ≡ other) ⊎ (IsTrue (has_automaton kind) × DifferInSuffixes one other)
   one_text v u counts others one other kind same alike says says' =
       texts_alike counts others AreSameButForSuffixes
       (λ f g is is' steps steps'. record { up_to_access = one_automaton k L names f g is is'; steps = steps ∙ ap (λ counts. Some (step_part_of counts)) alike ∙ sym steps' })
@@ -94,35 +77,29 @@ module _ (one_automaton : OneAutomaton) (one_file : OneFile) (k : ℕ) (L : Lang
 
   -- with any
   pub one_meaning : (v u : Verdict) (counts others : List Count) (one other : List ℕ) (kind : Kind) → v ≡ u → Says kind k L names counts v one
-      → Says kind k L names others u other → (one ≡ other) ⊎ AgreeUpToAccess one other
+      → Says kind k L names others u other → (one ≡ other) ⊎ (IsTrue (has_automaton kind) × AgreeUpToAccess one other)
   one_meaning v u counts others one other kind same says says' =
       texts_alike counts others AreSameUpToAccess (λ f g is is' steps steps'. one_automaton k L names f g is is')
       v u one other kind same says says'
 
 -- ---- sets with the same behaviours
 
-module _ (move : AutomatonOfSameBehaviours) (move_file : FileOfSameBehaviours) (say_node : FileSaysNode) (say_unit : FileSaysUnit)
-    (k : ℕ) (L M : Language) (names : List (List ℕ)) (counts : List Count) (same : HaveSameBehaviours k L M) where
+module _ (move : AutomatonOfSameBehaviours) (move_node : NodeOfSameBehaviours) (move_unit : UnitOfSameBehaviours) (k : ℕ) (L M : Language) (names : List (List ℕ)) (counts : List Count)
+    (same : HaveSameBehaviours k L M) where
   automaton_of_same : (text : List ℕ) → SaysAutomaton k L names counts text → SaysAutomaton k M names counts text
   automaton_of_same text says = record { automaton = says.automaton; is = move k L M names says.automaton same says.is; steps = says.steps; says = says.says }
-
-  node_of_same : (text : List ℕ) → SaysNode k L names text → SaysNode k M names text
-  node_of_same text says = subst (SaysNode k M names) (sym says.says) (say_node k M names says.file (move_file k L M names says.file same says.of))
-
-  unit_of_same : (text : List ℕ) → SaysUnit k L names text → SaysUnit k M names text
-  unit_of_same text says = subst (SaysUnit k M names) (sym says.says) (say_unit k M names says.file (move_file k L M names says.file same says.of))
 
   pub says_of_same : (v : Verdict) (text : List ℕ) (kind : Kind) → Says kind k L names counts v text → Says kind k M names counts v text
   says_of_same v text Check says = says
   says_of_same v text Automaton says = automaton_of_same text says
-  says_of_same v text Lustre says = node_of_same text says
-  says_of_same v text C says = unit_of_same text says
+  says_of_same v text Lustre says = move_node k L M names text same says
+  says_of_same v text C says = move_unit k L M names text same says
   says_of_same v text All says = record {
     automaton = says.automaton;
     node = says.node;
     unit = says.unit;
     says_automaton = automaton_of_same says.automaton says.says_automaton;
-    says_node = node_of_same says.node says.says_node;
-    says_unit = unit_of_same says.unit says.says_unit;
+    says_node = move_node k L M names says.node same says.says_node;
+    says_unit = move_unit k L M names says.unit same says.says_unit;
     says = says.says;
   }

@@ -1,56 +1,83 @@
 -- The laws that `src/laws.rt` proves.
-use Rattle.std.specs.Prelude.{◌≡◌, ◌≢◌, ℕ, List, Some, IsTrue, length, codes, IsSome}
-use Rattle.dcv_cli.specs.Common.{PlainFile, models, texts_of, Limits, IsOver, Over, Budget}
-use Rattle.dcv_cli.specs.Common.{Done, Valid, StatusBudget, all_text, Kind, Automaton, All as AllTexts, Request, Report, Certify, Convert}
-use Rattle.dcv_cli.specs.Common.{Implies, files_of, Version, One, Two}
+use Rattle.std.specs.Prelude.{◌≡◌, ◌≢◌, ◌⊎◌, ℕ, Bool, false, List, [], Option, Some, IsTrue, length, codes, IsSome, IsSomeAnd}
+use Rattle.dcv_cli.specs.Common.{PlainFile, models, texts_of, Limits, IsOver, Excess, Over, Budget, Product, Which, Only, First, Second}
+use Rattle.dcv_cli.specs.Common.{Done, Valid, Usage, all_text, Kind, Automaton, All as AllTexts, IsTaken, Request, Report, Certify, Convert}
+use Rattle.dcv_cli.specs.Common.{Implies, Stuck, Synth, files_of, Version, One, Two}
 use Rattle.std.specs.List.{All}
 use Rattle.dcv_language.specs.Language.{HaveSameBehaviours}
 use Rattle.dcv_tokens.specs.Tokens.{BeginsWith}
 use Rattle.dcv_explore.specs.Budget.{Kind as KindOfExcess}
-use Rattle.dcv_cli.specs.Budget.{steps_of_file, IsFirstOver}
-use Rattle.dcv_cli.specs.Refusal.{message_of, only}
+use Rattle.dcv_implies.specs.Comparison.{IsProductOver}
+use Rattle.dcv_print.specs.Automaton.{DifferInSuffixes}
+use Rattle.dcv_cli.specs.Budget.{steps_of_file, limit_of, IsFirstOver}
 use Rattle.dcv_cli.specs.FormulaFile.{IsFormulaFile}
 use Rattle.dcv_cli.specs.Held.{Texts}
-use Rattle.dcv_cli.specs.Outcome.{Outcome, Agrees, AgreeInMeaning}
+use Rattle.dcv_cli.specs.Outcome.{Outcome, refused, has_automaton, AgreeInMeaning}
 use Rattle.dcv_cli.specs.Request.{AsksFor}
 use Rattle.dcv_cli.specs.Right.{Fulfils, IsRight}
 use Rattle.dcv_cli.specs.Status.{is_answer}
 
--- the words ask for a report on a file, and what is held there is a formula file
-pub record AskForAFormula (words : List (List ℕ)) (held : Texts) : Type 0 where
-  pub kind : Kind
-  pub name : List ℕ
-  pub limits : Limits
-  pub asked : AsksFor words (Report kind name limits)
-  pub text : List ℕ
-  pub there : held 0 name ≡ Some text
-  pub file : PlainFile
-  pub formula : IsFormulaFile text file
-
 -- ---- one outcome
 
--- Of a report both messages are of the first step over the limits of the file that the words name. Where they name one excess they are the
--- same; where one names the states and the other the nodes, the step has too many of both.
-pub record NameOneStep (words : List (List ℕ)) (held : Texts) (one other : List ℕ) : Type 0 where
-  pub asks : AskForAFormula words held
+-- The step of the file that is first over the limits is over both, and one outcome names the states, the other the nodes.
+pub record DifferInStep (limits : Limits) (which : Which) (file : PlainFile) (one other : Outcome) : Type 0 where
   pub first : Over
   pub second : Over
-  pub first_is : IsFirstOver asks.limits asks.file first
-  pub second_is : IsFirstOver asks.limits asks.file second
-  pub one_is : one ≡ message_of (only (Budget first))
-  pub other_is : other ≡ message_of (only (Budget second))
+  pub first_is : IsFirstOver limits file first
+  pub second_is : IsFirstOver limits file second
+  pub differ : first.excess ≢ second.excess
   pub step : first.step ≡ second.step
-  pub same : first.excess ≡ second.excess → first ≡ second
-  pub both : first.excess ≢ second.excess → (kind : KindOfExcess) → IsOver (steps_of_file asks.file) asks.limits kind first.step
+  pub both : (kind : KindOfExcess) → IsOver (steps_of_file file) limits kind first.step
+  pub one_is : one ≡ refused (Budget first) which
+  pub other_is : other ≡ refused (Budget second) which
 
--- the words ask for a report
-abbrev pub AskForAReport : List (List ℕ) → Type 0
-AskForAReport words = (kind : Kind) × (name : List ℕ) × (limits : Limits) × AsksFor words (Report kind name limits)
+-- so it is with the product of two files
+pub record DifferInProduct (limits : Limits) (file another : PlainFile) (one other : Outcome) : Type 0 where
+  pub first : Excess
+  pub second : Excess
+  pub differ : first ≢ second
+  pub both : (kind : KindOfExcess) → IsProductOver limits (length file.variables) (models file) (models another) kind
+  pub one_is : one ≡ refused (Product first (limit_of first limits)) Only
+  pub other_is : other ≡ refused (Product second (limit_of second limits)) Only
+
+-- a step of the formula file that is held, or the product of two that are
+abbrev pub DifferOnFile : Limits → Which → Option (List ℕ) → Outcome → Outcome → Type 0
+DifferOnFile limits which text one other = IsSomeAnd text (λ bytes. (file : PlainFile) × IsFormulaFile bytes file × DifferInStep limits which file one other)
+
+abbrev pub DifferOnFiles : Limits → Option (List ℕ) → Option (List ℕ) → Outcome → Outcome → Type 0
+DifferOnFiles limits text another_text one other = IsSomeAnd text (λ bytes. IsSomeAnd another_text (λ others.
+    (file : PlainFile) × (another : PlainFile) × IsFormulaFile bytes file × IsFormulaFile others another × DifferInProduct limits file another one other))
+
+-- what a request leaves open where both limits are exceeded
+abbrev pub DifferInLimit : Request → Texts → Outcome → Outcome → Type 0
+DifferInLimit (Report kind name limits) held one other = DifferOnFile limits Only (held 0 name) one other
+DifferInLimit (Stuck name limits) held one other = DifferOnFile limits Only (held 0 name) one other
+DifferInLimit (Synth name inputs limits) held one other = DifferOnFile limits Only (held 0 name) one other
+DifferInLimit (Implies first second limits) held one other =
+    DifferOnFile limits First (held 0 first) one other
+    ⊎ (DifferOnFile limits Second (held 1 second) one other ⊎ DifferOnFiles limits (held 0 first) (held 1 second) one other)
+DifferInLimit _ held one other = ⊥
+
+-- whether the text of an automaton is asked for that has to list suffixes
+abbrev pub asks_for_suffixes : Request → Bool
+asks_for_suffixes (Report kind name limits) = has_automaton kind
+asks_for_suffixes _ = false
+
+-- Left to the program are which suffixes the text of an automaton lists, and which limit is named where both are exceeded. All else is the same.
+pub data AgreeOn (request : Request) (held : Texts) (one other : Outcome) : Type 0 where
+  InAll : one ≡ other → AgreeOn request held one other
+  ButForSuffixes : IsTrue (asks_for_suffixes request) → one.status ≡ other.status → DifferInSuffixes one.out other.out → one.err ≡ other.err
+      → AgreeOn request held one other
+  ButForTheLimit : DifferInLimit request held one other → AgreeOn request held one other
+
+-- and in what words it is said that the words are no command's
+pub data Agree (words : List (List ℕ)) (held : Texts) (one other : Outcome) : Type 0 where
+  Misusing : ¬ (IsTaken words) → one.status ≡ Usage → other.status ≡ Usage → one.out ≡ [] → other.out ≡ [] → Agree words held one other
+  Asking : (request : Request) → AsksFor words request → AgreeOn request held one other → Agree words held one other
 
 -- two outcomes that are right for the words and what is held are the same, but for what is left to the program
 abbrev pub OneOutcome : Type 0
-OneOutcome = (words : List (List ℕ)) (held : Texts) (one other : Outcome) → IsRight words held one → IsRight words held other
-    → Agrees one other × (AskForAReport words → one.status ≡ StatusBudget → NameOneStep words held one.err other.err)
+OneOutcome = (words : List (List ℕ)) (held : Texts) (one other : Outcome) → IsRight words held one → IsRight words held other → Agree words held one other
 
 -- ---- some outcome
 
@@ -147,3 +174,20 @@ pub record AreOneRequirement (first second : List ℕ) : Type 0 where
 -- those that imply each other do, so that all that is printed of one is printed of the other, but for suffixes and what the steps took
 abbrev pub ImpliesBothWays : Type 0
 ImpliesBothWays = (first second : List ℕ) → Implied first second → Implied second first → AreOneRequirement first second
+
+-- ---- requirements that never get stuck
+
+-- it is right to answer of the text that it is never stuck
+pub record NeverStuck (text : List ℕ) : Type 0 where
+  pub name : List ℕ
+  pub limits : Limits
+  pub held : Texts
+  pub there : held 0 name ≡ Some text
+  pub outcome : Outcome
+  pub right : Fulfils (Stuck name limits) held outcome
+  pub valid : outcome.status ≡ Valid
+
+-- a controller without inputs is found for it, unless its variables are too many to be outputs or a step is over the limits
+abbrev pub NeverStuckIsRealisable : Type 0
+NeverStuckIsRealisable = (text : List ℕ) → NeverStuck text → (name : List ℕ) (limits : Limits) (held : Texts) (outcome : Outcome) → held 0 name ≡ Some text
+    → Fulfils (Synth name 0 limits) held outcome → IsTrue (is_answer outcome.status) → outcome.status ≡ Valid

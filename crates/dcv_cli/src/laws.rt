@@ -1,6 +1,6 @@
 //! Laws on what is right, each the contract of a function that does nothing.
 ghost use Rattle.dcv_cli.specs.Headline.{Headline, HeadlineIsComplete};
-ghost use Rattle.dcv_cli.specs.Laws.{OneOutcome, SomeOutcome, EqualMeanings, PrintedIsCertified, ConvertedBackIsTheText, ImpliesBothWays};
+ghost use Rattle.dcv_cli.specs.Laws.{OneOutcome, SomeOutcome, EqualMeanings, PrintedIsCertified, ConvertedBackIsTheText, ImpliesBothWays, NeverStuckIsRealisable};
 
 use dcv_automaton_text::laws::{one_file as one_automaton_text, versions_stand_for_the_same};
 use dcv_build::laws::{machines_accept_steps, one_list_of_counts, one_step_is_over};
@@ -15,7 +15,7 @@ use dcv_language::laws::{
 };
 use dcv_lustre::laws::{texts_are_nodes_or_at_fault, texts_spell_nodes};
 use dcv_print::laws::{
-    automaton_has_fewest_states, automaton_of_same_behaviours, one_automaton, one_file,
+    automaton_has_fewest_states, automaton_of_same_behaviours, one_automaton, one_observer,
     printed_is_automaton, printed_observers_observe,
 };
 use dcv_reader::laws::{names_are_short, one_fault, one_tree, some_reading};
@@ -53,7 +53,7 @@ pub fn one_outcome()
     one_step_is_over();
     one_list_of_counts();
     one_automaton();
-    one_file();
+    one_observer();
     one_automaton_text();
     one_answer();
     one_comparison();
@@ -92,6 +92,7 @@ pub fn some_outcome()
     printed_is_automaton();
     printed_observers_observe();
     automaton_of_same_behaviours();
+    one_observer();
     some_player_wins();
     controls_win();
     strategies_beat();
@@ -110,8 +111,7 @@ pub fn equal_meanings()
     verdict_of_same_behaviours();
     one_automaton();
     automaton_of_same_behaviours();
-    one_file();
-    printed_observers_observe();
+    one_observer();
 }
 
 /// Each text of an automaton that is printed is certified when it is read back, and so is that part of the text of `all`.
@@ -139,4 +139,12 @@ pub fn implies_both_ways()
 {
     one_tree();
     none_is_inclusion();
+}
+
+/// A requirement that never gets stuck has a controller without inputs. Where `stuck` answers so, `synth` with 0 inputs is `realisable`, unless it
+/// refuses the file: for more variables than outputs may be, or for a step that is over the limits.
+pub fn never_stuck_is_realisable()
+    ensures { NeverStuckIsRealisable }
+{
+    one_tree();
 }

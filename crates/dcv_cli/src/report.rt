@@ -32,7 +32,7 @@ use dcv_io::Sink;
 use dcv_language::Count;
 use dcv_language::laws::verdict_of_same_behaviours;
 use dcv_print::laws::{
-    automaton_of_same_behaviours, printed_is_automaton, printed_observers_observe,
+    automaton_of_same_behaviours, one_observer, printed_is_automaton, printed_observers_observe,
 };
 use dcv_print::{Kind, Report};
 use dcv_reader::laws::names_are_short;
@@ -65,6 +65,7 @@ pub(crate) fn report_on<'a>(
     verdict_of_same_behaviours();
     printed_is_automaton();
     automaton_of_same_behaviours();
+    one_observer();
     printed_observers_observe();
     // for the prover: what is true of every canonical automaton.
     let _ = judged.auto.states();

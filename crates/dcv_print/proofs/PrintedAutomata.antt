@@ -5,8 +5,6 @@ use Rattle.dcv_word.specs.Behaviour.{Word}
 use Rattle.dcv_language.specs.Canonical.{IsCanonical}
 use Rattle.dcv_language.specs.Certificate.{IsCertificate}
 use Rattle.dcv_language.specs.Table.{Table}
-use Rattle.dcv_language.specs.declared.child.Child.{Child}
-use Rattle.dcv_language.specs.declared.child.Child.TheVariants.{State, Node}
 use Rattle.dcv_dfa.specs.declared.node_lines.NodeLine.{NodeLine}
 use Rattle.dcv_dfa.specs.Laws.{OneTableHasOneListOfLines, LinesLeadAsTheRows}
 use Rattle.dcv_dfa.specs.NodeLines.{NodeLinesValue, node_lines_of}

@@ -22,14 +22,13 @@ use Rattle.dcv_language.specs.declared.certificate.Access.{Access}
 use Rattle.dcv_language.specs.declared.certificate.Suffix.{Suffix}
 use Rattle.dcv_certificate.specs.Proof.{AreSpelled, suffix_words, IsProof}
 use Rattle.dcv_automaton_file.specs.Laws.{HasFile}
-use Rattle.dcv_c.specs.Layout as c
 use Rattle.dcv_c.specs.Observer.{observer_of as unit_of}
-use Rattle.dcv_lustre.specs.Layout as lustre
 use Rattle.dcv_lustre.specs.Observer.{observer_of as node_of}
 use Rattle.dcv_print.specs.Counts.{ArePrintableCounts}
 use Rattle.dcv_print.specs.Automaton.{IsAutomatonOf, AreSameUpToAccess}
-use Rattle.dcv_print.specs.Observers.{IsFileOf, SaysNode, SaysUnit}
+use Rattle.dcv_print.specs.Observers.{SaysNode, SaysUnit}
 use Rattle.dcv_print.specs.Printed.{printed_file}
+use Rattle.dcv_print.specs.Report.{IsLustreObserver, IsCObserver}
 
 abbrev pub IsPrintable : RawValue → List (List ℕ) → Type 0
 IsPrintable raw names = HasFile raw names
@@ -92,12 +91,19 @@ AutomatonHasFewestStates = (k : ℕ) (L : Language) (names : List (List ℕ)) (f
 
 -- ---- what observers are
 
--- a set has one file without words
-abbrev pub OneFile : Type 0
-OneFile = (k : ℕ) (L : Language) (names : List (List ℕ)) (one other : AutomatonFile) → IsFileOf k L names one → IsFileOf k L names other → one ≡ other
+-- one text at most says an observer of a set
+abbrev pub OneNode : Type 0
+OneNode = (k : ℕ) (L : Language) (names : List (List ℕ)) (one other : List ℕ) → SaysNode k L names one → SaysNode k L names other → one ≡ other
 
-abbrev pub FileOfSameBehaviours : Type 0
-FileOfSameBehaviours = (k : ℕ) (L M : Language) (names : List (List ℕ)) (file : AutomatonFile) → HaveSameBehaviours k L M → IsFileOf k L names file → IsFileOf k M names file
+abbrev pub OneUnit : Type 0
+OneUnit = (k : ℕ) (L : Language) (names : List (List ℕ)) (one other : List ℕ) → SaysUnit k L names one → SaysUnit k L names other → one ≡ other
+
+-- and says one of each set with the same behaviours
+abbrev pub NodeOfSameBehaviours : Type 0
+NodeOfSameBehaviours = (k : ℕ) (L M : Language) (names : List (List ℕ)) (text : List ℕ) → HaveSameBehaviours k L M → SaysNode k L names text → SaysNode k M names text
+
+abbrev pub UnitOfSameBehaviours : Type 0
+UnitOfSameBehaviours = (k : ℕ) (L M : Language) (names : List (List ℕ)) (text : List ℕ) → HaveSameBehaviours k L M → SaysUnit k L names text → SaysUnit k M names text
 
 -- both versions of a file have the same observers
 abbrev pub NodeOfVersions : Type 0
@@ -106,9 +112,13 @@ NodeOfVersions = (file : AutomatonFile) → node_of (first_version file) ≡ nod
 abbrev pub UnitOfVersions : Type 0
 UnitOfVersions = (file : AutomatonFile) → unit_of (first_version file) ≡ unit_of file
 
--- its observer is what a text has to be that says an observer of the set
-abbrev pub FileSaysNode : Type 0
-FileSaysNode = (k : ℕ) (L : Language) (names : List (List ℕ)) (file : AutomatonFile) → IsFileOf k L names file → SaysNode k L names (lustre.text_of (node_of file))
+-- the text of an automaton's observer says one of the behaviours that are accepted
+abbrev pub PrintedSaysNode : Type 0
+PrintedSaysNode = (raw : RawValue) (names : List (List ℕ)) (access : List Access) (suffixes : List Suffix) (counts : List Count) (text : List ℕ)
+    → IsPrintable raw names → IsProof raw access suffixes → ArePrintableCounts counts → IsLustreObserver raw names text
+    → SaysNode raw.arena.slots (raw_accepts raw) names text
 
-abbrev pub FileSaysUnit : Type 0
-FileSaysUnit = (k : ℕ) (L : Language) (names : List (List ℕ)) (file : AutomatonFile) → IsFileOf k L names file → SaysUnit k L names (c.text_of (unit_of file))
+abbrev pub PrintedSaysUnit : Type 0
+PrintedSaysUnit = (raw : RawValue) (names : List (List ℕ)) (access : List Access) (suffixes : List Suffix) (counts : List Count) (text : List ℕ)
+    → IsPrintable raw names → IsProof raw access suffixes → ArePrintableCounts counts → IsCObserver raw names text
+    → SaysUnit raw.arena.slots (raw_accepts raw) names text

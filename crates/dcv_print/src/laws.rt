@@ -1,6 +1,6 @@
 //! Laws of the text that is printed of an automaton. Each function here does nothing: its contract is the law.
 ghost use Rattle.dcv_print.specs.Laws.{PrintedIsSpellable, PrintedIsGood, PrintedTable, PrintedAccess, PrintedSuffixes, PrintedSteps};
-ghost use Rattle.dcv_print.specs.Laws.{OneFile, FileOfSameBehaviours, FileSaysNode, FileSaysUnit};
+ghost use Rattle.dcv_print.specs.Laws.{OneNode, OneUnit, NodeOfSameBehaviours, UnitOfSameBehaviours, PrintedSaysNode, PrintedSaysUnit};
 ghost use Rattle.dcv_print.specs.Laws.{PrintedIsReadBack, PrintedIsAutomaton, OneAutomaton, AutomatonOfSameBehaviours, AutomatonHasFewestStates};
 ghost use Rattle.dcv_print.specs.Laws.{NodeOfVersions, UnitOfVersions};
 
@@ -64,14 +64,15 @@ pub fn automaton_has_fewest_states()
     words_show_fewest_states();
 }
 
-/// The file of a set's canonical automaton is determined, but for its words, and is that of each set with the same behaviours.
-pub fn one_file()
-    ensures one { OneFile }
-    ensures same { FileOfSameBehaviours }
+/// One text of a subset at most says an observer of a set, and it says one of each set with the same behaviours.
+pub fn one_observer()
+    ensures node { OneNode }
+    ensures unit { OneUnit }
+    ensures node_of_same { NodeOfSameBehaviours }
+    ensures unit_of_same { UnitOfSameBehaviours }
 {
-    one_canonical_table();
-    canonical_for_same_behaviours();
-    lines_are_of_tables();
+    one_automaton();
+    automaton_of_same_behaviours();
 }
 
 /// What the steps took does not matter to an observer.
@@ -80,11 +81,12 @@ pub fn versions_have_the_same_observers()
     ensures unit { UnitOfVersions }
 {}
 
-/// The texts of the observers of this file are read as these, and both accept the behaviours of the set.
+/// The texts of an automaton's observers are read as these, and both accept the behaviours that the automaton accepts.
 pub fn printed_observers_observe()
-    ensures node { FileSaysNode }
-    ensures unit { FileSaysUnit }
+    ensures node { PrintedSaysNode }
+    ensures unit { PrintedSaysUnit }
 {
+    printed_is_automaton();
     dcv_lustre::laws::observers_accept_the_same();
     dcv_lustre::laws::texts_spell_nodes();
     dcv_c::laws::observers_accept_the_same();

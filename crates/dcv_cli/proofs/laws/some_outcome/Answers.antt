@@ -28,7 +28,14 @@ returns c =
     let short = c.names_are_short.ensures in
     let reports : SomeReport =
     some_budgeted word_laws accept outside_is models_are short c.measures_bound_core.ensures.steps
-    c.printed_is_automaton.ensures c.printed_observers_observe.ensures.node c.printed_observers_observe.ensures.unit c.automaton_of_same_behaviours.ensures in
+    (record {
+      printed = c.printed_is_automaton.ensures;
+      node = c.printed_observers_observe.ensures.node;
+      unit = c.printed_observers_observe.ensures.unit;
+      move = c.automaton_of_same_behaviours.ensures;
+      move_node = c.one_observer.ensures.node_of_same;
+      move_unit = c.one_observer.ensures.unit_of_same;
+    }) in
     let syntheses : SomeSynthesis = λ inputs limits range text file formula.
     some_synthesised word_laws accept models_are game inputs limits file range.within.few_states range.within.few_nodes (are_names short text file formula) formula.has_core in
     some_outcome c.some_reading.ensures reports syntheses word_laws accept outside_is models_are c.none_is_inclusion.ensures.none

@@ -6,7 +6,14 @@ use Rattle.dcv_cli.proofs.report.report_on.Goals as goal
 pub returns : goal.returns
 returns c k L of =
     let judged = c.args.judged.now in
-    report_answers c.printed_is_automaton.ensures c.printed_observers_observe.ensures.node c.printed_observers_observe.ensures.unit c.automaton_of_same_behaviours.ensures c.verdict_of_same_behaviours.ensures
+    report_answers (record {
+      printed = c.printed_is_automaton.ensures;
+      node = c.printed_observers_observe.ensures.node;
+      unit = c.printed_observers_observe.ensures.unit;
+      move = c.automaton_of_same_behaviours.ensures;
+      move_node = c.one_observer.ensures.node_of_same;
+      move_unit = c.one_observer.ensures.unit_of_same;
+    }) c.verdict_of_same_behaviours.ensures
     c.tables_accept_the_same.ensures.accepts judged.auto (texts_of judged.names.items) judged.counts.items
     (record {
       is_raw = c.states.ensures.raw;
