@@ -64,7 +64,8 @@ impl<P: Drop> Body<P> {
 
 /// A list that stands from its last element to its first, with one more before the first.
 pub fn with_first<T: Drop>(first: T, mut others: Vec<T>) -> Result<Vec<T>, AllocError>
-    ensures { IfOk result (λ all. reverse all.items ≡ first ∷ reverse others.items) }
+    ensures items { IfOk result (λ all. all.items ≡ others.items ++ first ∷ []) }
+    ensures forwards { IfOk result (λ all. reverse all.items ≡ first ∷ reverse others.items) }
 {
     others.push(first)?;
     Ok(others)
