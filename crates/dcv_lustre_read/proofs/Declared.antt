@@ -12,7 +12,7 @@ use Rattle.dcv_lustre.specs.Rules.{is_same_kind, kind_of, keeps_equations, has_a
 use Rattle.dcv_lustre_read.specs.Scope.{Told, Row, told_inputs, told_locals, told_of, rows_from, keeps_from, IsDeclaring, IsRow, Knows, KnowsAll, seen_row}
 use Rattle.dcv_observer.specs.Judged.{IsLeft}
 use Rattle.dcv_lustre_read.specs.Judged.{words_of_equations, words_of_locals, names_of_locals}
-use Rattle.dcv_lustre_read.specs.Contents.{first_fault_of}
+use Rattle.dcv_lustre_read.specs.Contents.{first_fault_of, words_behind, keeps_behind}
 use Rattle.dcv_lustre_read.specs.declared.placed.PlacedNode.{PlacedNode as CodeNode}
 use Rattle.dcv_lustre_read.specs.declared.placed.PlacedLocal.{PlacedLocal as CodeLocal}
 use Rattle.dcv_lustre_read.specs.declared.placed.PlacedEquation.{PlacedEquation as CodeEquation}
@@ -124,15 +124,11 @@ declared_knows {node = node} {names = names} {rows = rows} d =
 
 -- its own name is declared
 pub declaring_begins : (placed : PlacedNode)
-    → IsDeclaring (node_of placed) (first_fault_of placed) (words_of_equations placed.equations ++ placed.tel ∷ [])
-    (keeps_equations (node_of placed) [] (node_of placed).equations ++ has_all_equations (node_of placed) ∷ [])
+    → IsDeclaring (node_of placed) (first_fault_of placed) (words_behind placed) (keeps_behind (node_of placed))
     (placed.name.bytes ∷ []) [] (placed.inputs ++ (placed.output ∷ words_of_locals placed.locals))
     (bytes_of placed.inputs ++ (ok ∷ names_of_locals placed.locals)) (told_inputs (bytes_of placed.inputs) ++ ((OfTruth, false) ∷ told_locals (map local_of placed.locals)))
 unfolding words_of judged
 declaring_begins placed =
-    let others = words_of_equations placed.equations ++ placed.tel ∷ [] in
-    let node = node_of placed in
-    let others_keep = keeps_equations node [] node.equations ++ has_all_equations node ∷ [] in
     record {
       all = refl;
       distinct = (refl, tt);
@@ -140,8 +136,8 @@ declaring_begins placed =
       numbered = refl;
       left =
           record {
-            first = ap (λ (words : List Token). first_broken words (keeps_from node 1 (names_of node) ++ others_keep))
-                (append_assoc placed.inputs (placed.output ∷ words_of_locals placed.locals) others);
+            first = ap (λ (words : List Token). first_broken words (keeps_from (node_of placed) 1 (names_of (node_of placed)) ++ keeps_behind (node_of placed)))
+                (append_assoc placed.inputs (placed.output ∷ words_of_locals placed.locals) (words_behind placed));
           };
     }
 
@@ -153,10 +149,10 @@ module _ (placed : CodeNode) where
   whole_at = first_fault_of (seen_node placed)
 
   abbrev pub others_at : List Token
-  others_at = words_of_equations (map seen_equation placed.equations.items) ++ seen placed.tel ∷ []
+  others_at = words_behind (seen_node placed)
 
   abbrev pub others_keep_at : List Bool
-  others_keep_at = keeps_equations node_at [] node_at.equations ++ has_all_equations node_at ∷ []
+  others_keep_at = keeps_behind node_at
 
   abbrev pub output_words : List Token
   output_words = seen placed.output ∷ words_of_locals (map seen_local placed.locals.items)
