@@ -8,6 +8,7 @@ ghost use Rattle.dcv_c_read.specs.Symbols.{seen_part, IsMeant};
 use crate::accessors;
 use crate::parts::{Made, Part, Parts, Words};
 use crate::placed::{PlacedAssignment, PlacedTest, PlacedTests};
+use dcv_translation::with_first;
 use std::alloc::Global;
 
 // static = "static" "int" name ";"
@@ -27,11 +28,7 @@ pub(crate) fn tokens<'a>(alloc: Global, parts: &mut Parts<'a>) -> Made<'a>
 {
     match accessors::token_or_end(parts) {
         None => Ok(Part::Tokens(Vec::new(alloc))),
-        Some(name) => {
-            let mut names = accessors::tokens(parts);
-            names.push(name)?;
-            Ok(Part::Tokens(names))
-        }
+        Some(name) => Ok(Part::Tokens(with_first(name, accessors::tokens(parts))?)),
     }
 }
 
@@ -42,11 +39,10 @@ pub(crate) fn assignments<'a>(alloc: Global, parts: &mut Parts<'a>) -> Made<'a>
 {
     match accessors::words_or_end(parts) {
         None => Ok(Part::Assignments(Vec::new(alloc))),
-        Some(Words::Assignment(assignment)) => {
-            let mut assignments = accessors::assignments(parts);
-            assignments.push(assignment)?;
-            Ok(Part::Assignments(assignments))
-        }
+        Some(Words::Assignment(assignment)) => Ok(Part::Assignments(with_first(
+            assignment,
+            accessors::assignments(parts),
+        )?)),
         _ => unreachable!(),
     }
 }
@@ -70,10 +66,7 @@ pub(crate) fn parameters<'a>(alloc: Global, parts: &mut Parts<'a>) -> Made<'a>
     let name = accessors::token(parts);
     match parts.next() {
         None => Ok(Part::Tokens(Vec::new(alloc))),
-        Some(Part::Tokens(mut names)) => {
-            names.push(name)?;
-            Ok(Part::Tokens(names))
-        }
+        Some(Part::Tokens(names)) => Ok(Part::Tokens(with_first(name, names)?)),
         _ => unreachable!(),
     }
 }
@@ -87,9 +80,7 @@ pub(crate) fn more_parameters<'a>(alloc: Global, parts: &mut Parts<'a>) -> Made<
         return Ok(Part::Tokens(Vec::new(alloc)));
     }
     let name = accessors::token(parts);
-    let mut names = accessors::tokens(parts);
-    names.push(name)?;
-    Ok(Part::Tokens(names))
+    Ok(Part::Tokens(with_first(name, accessors::tokens(parts))?))
 }
 
 // parameter = "int" name
@@ -117,11 +108,10 @@ pub(crate) fn statements<'a>(alloc: Global, parts: &mut Parts<'a>) -> Made<'a>
 {
     match parts.next() {
         None => Ok(Part::Statements(Vec::new(alloc))),
-        Some(Part::Statement(statement)) => {
-            let mut statements = accessors::statements(parts);
-            statements.push(statement)?;
-            Ok(Part::Statements(statements))
-        }
+        Some(Part::Statement(statement)) => Ok(Part::Statements(with_first(
+            statement,
+            accessors::statements(parts),
+        )?)),
         _ => unreachable!(),
     }
 }
@@ -179,11 +169,7 @@ pub(crate) fn more_tests<'a>(alloc: Global, parts: &mut Parts<'a>) -> Made<'a>
         return Ok(Part::Tests(Vec::new(alloc)));
     }
     match accessors::words(parts) {
-        Words::Test(test) => {
-            let mut tests = accessors::tests(parts);
-            tests.push(test)?;
-            Ok(Part::Tests(tests))
-        }
+        Words::Test(test) => Ok(Part::Tests(with_first(test, accessors::tests(parts))?)),
         _ => unreachable!(),
     }
 }
