@@ -148,12 +148,6 @@ module _ (placed : CodeNode) where
   abbrev pub whole_at : Option ℕ
   whole_at = first_fault_of (seen_node placed)
 
-  abbrev pub others_at : List Token
-  others_at = words_behind (seen_node placed)
-
-  abbrev pub others_keep_at : List Bool
-  others_keep_at = keeps_behind node_at
-
   abbrev pub output_words : List Token
   output_words = seen placed.output ∷ words_of_locals (map seen_local placed.locals.items)
 
@@ -165,7 +159,7 @@ module _ (placed : CodeNode) where
 
   abbrev pub AtInputs : List Item → Names → List Row → Type 0
   AtInputs items names rows =
-      IsDeclaring node_at whole_at others_at others_keep_at names rows (map seen items ++ output_words) (bytes_of (map seen items) ++ output_names)
+      IsDeclaring node_at whole_at (words_behind (seen_node placed)) (keeps_behind node_at) names rows (map seen items ++ output_words) (bytes_of (map seen items) ++ output_names)
       (told_inputs (bytes_of (map seen items)) ++ output_told)
 
   pub at_inputs : {items : List Item} {names : Names} {rows : List Declaration} → items ≡ placed.inputs.items → names ≡ (seen_node placed).name.bytes ∷ [] → rows ≡ []
@@ -184,7 +178,7 @@ module _ (placed : CodeNode) where
 
   abbrev pub AtLocals : List CodeLocal → Names → List Row → Type 0
   AtLocals items names rows =
-      IsDeclaring node_at whole_at others_at others_keep_at names rows (words_of_locals (map seen_local items)) (names_of_locals (map seen_local items))
+      IsDeclaring node_at whole_at (words_behind (seen_node placed)) (keeps_behind node_at) names rows (words_of_locals (map seen_local items)) (names_of_locals (map seen_local items))
       (told_locals (map local_of (map seen_local items)))
 
   pub at_locals : {items : List CodeLocal} {names : Names} {rows : List Row} → items ≡ placed.locals.items → AtLocals placed.locals.items names rows → AtLocals items names rows
@@ -194,7 +188,7 @@ module _ (placed : CodeNode) where
   AtEquations items =
       IsLeft whole_at (words_of_equations (map seen_equation items) ++ seen placed.tel ∷ []) (keeps_equations node_at [] (map equation_of (map seen_equation items)) ++ has_all_equations node_at ∷ [])
 
-  pub at_equations : {items : List CodeEquation} → items ≡ placed.equations.items → IsLeft whole_at others_at others_keep_at → AtEquations items
+  pub at_equations : {items : List CodeEquation} → items ≡ placed.equations.items → IsLeft whole_at (words_behind (seen_node placed)) (keeps_behind node_at) → AtEquations items
   at_equations is left = subst AtEquations (sym is) left
 
   pub at_tel : {items : List CodeEquation} {names : Names} {rows : List Row} → items ≡ placed.equations.items → KnowsAll node_at (map equation_of (map seen_equation items)) names rows

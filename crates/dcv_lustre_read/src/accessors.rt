@@ -18,13 +18,10 @@ pub(crate) fn words<'a>(parts: &mut Parts<'a>) -> Words<'a>
     requires { Begins AreWords (map seen_part parts.old) }
     ensures { map seen_part parts.old ≡ seen_words result ∷ map seen_part parts.new }
 {
-    let next = parts.next();
-    let words = match &next {
-        Some(Part::Words(words)) => *words,
-        _ => unreachable!(),
-    };
-    forget(next);
-    words
+    match words_or_end(parts) {
+        Some(words) => words,
+        None => unreachable!(),
+    }
 }
 
 // None at the end of the body.

@@ -8,11 +8,10 @@ ghost use Rattle.dcv_lustre.specs.Placed.{bytes_of, local_of, node_of};
 ghost use Rattle.dcv_lustre.specs.Actions.{Spells};
 ghost use Rattle.dcv_lustre.specs.Words.{AreWords};
 ghost use Rattle.dcv_lustre.specs.Seen.{seen_local as local_seen};
-ghost use Rattle.dcv_lustre.specs.Tree.{Node as PlainNode, OfTruth};
-ghost use Rattle.dcv_lustre.specs.Meaning.{ok};
+ghost use Rattle.dcv_lustre.specs.Tree.{Node as PlainNode};
 ghost use Rattle.dcv_lustre.specs.Rules.{IsNamesFault};
 ghost use Rattle.dcv_lustre_read.specs.Seen.{seen_local, seen_node};
-ghost use Rattle.dcv_lustre_read.specs.Scope.{seen_row, Told, told_inputs, told_locals, IsDeclaring, is_within};
+ghost use Rattle.dcv_lustre_read.specs.Scope.{seen_row, Told, told_inputs, told_locals, IsDeclaring};
 ghost use Rattle.dcv_observer.specs.Judged.{Leads};
 ghost use Rattle.dcv_lustre_read.specs.Judged.{words_of_locals, names_of_locals};
 
@@ -67,18 +66,6 @@ impl<'a> Scope<'a> {
         Ok(texts)
     }
 
-    fn output(&mut self, output: &Item<'_>) -> Result<(), ObsFault>
-        ensures { (node : PlainNode) (whole : Option ℕ) (others : List Token) (others_keep : List Bool)
-            (words : List Token) (later : PlainNames) (told : List Told)
-            → IsDeclaring node whole others others_keep self.old.declared (map seen_row self.old.names.items)
-            (seen output.now ∷ words) (ok ∷ later) ((OfTruth, false) ∷ told)
-            → is_within node (length self.old.declared) ≡ true
-            → Leads whole (λ _. IsDeclaring node whole others others_keep self.new.declared (map seen_row self.new.names.items) words later told
-            × (length self.new.declared ≡ length self.old.declared + 1)) result }
-    {
-        self.declare(b"ok", output.start, Kind::OfTruth, false)
-    }
-
     // Declares the locals, after the inputs and the output.
     fn locals(&mut self, alloc: Global, locals: &[PlacedLocal<'a>]) -> Result<Vec<Local>, ObsFault>
         ensures { (node : PlainNode) (whole : Option ℕ) (others : List Token) (others_keep : List Bool)
@@ -110,7 +97,7 @@ impl<'a> Scope<'a> {
             (λ made. AreDeclared (seen_node placed.now) made.0.items made.1.items self.new.declared (map seen_row self.new.names.items)) result }
     {
         let inputs = self.inputs(alloc, &placed.inputs)?;
-        self.output(&placed.output)?;
+        self.declare(b"ok", placed.output.start, Kind::OfTruth, false)?;
         let locals = self.locals(alloc, &placed.locals)?;
         Ok((inputs, locals))
     }
