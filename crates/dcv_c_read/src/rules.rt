@@ -8,7 +8,7 @@ ghost use Rattle.dcv_c_read.specs.Symbols.{seen_part, IsMeant};
 use crate::accessors;
 use crate::parts::{Made, Part, Parts, Words};
 use crate::placed::{PlacedAssignment, PlacedTest, PlacedTests};
-use dcv_translation::with_first;
+use dcv_translation::list_with_first;
 use std::alloc::Global;
 
 // static = "static" "int" name ";"
@@ -28,7 +28,7 @@ pub(crate) fn tokens<'a>(alloc: Global, parts: &mut Parts<'a>) -> Made<'a>
 {
     match accessors::token_or_end(parts) {
         None => Ok(Part::Tokens(Vec::new(alloc))),
-        Some(name) => Ok(Part::Tokens(with_first(name, accessors::tokens(parts))?)),
+        Some(name) => list_with_first!(Tokens, name, accessors::tokens(parts)),
     }
 }
 
@@ -39,10 +39,9 @@ pub(crate) fn assignments<'a>(alloc: Global, parts: &mut Parts<'a>) -> Made<'a>
 {
     match accessors::words_or_end(parts) {
         None => Ok(Part::Assignments(Vec::new(alloc))),
-        Some(Words::Assignment(assignment)) => Ok(Part::Assignments(with_first(
-            assignment,
-            accessors::assignments(parts),
-        )?)),
+        Some(Words::Assignment(assignment)) => {
+            list_with_first!(Assignments, assignment, accessors::assignments(parts))
+        }
         _ => unreachable!(),
     }
 }
@@ -66,7 +65,7 @@ pub(crate) fn parameters<'a>(alloc: Global, parts: &mut Parts<'a>) -> Made<'a>
     let name = accessors::token(parts);
     match parts.next() {
         None => Ok(Part::Tokens(Vec::new(alloc))),
-        Some(Part::Tokens(names)) => Ok(Part::Tokens(with_first(name, names)?)),
+        Some(Part::Tokens(names)) => list_with_first!(Tokens, name, names),
         _ => unreachable!(),
     }
 }
@@ -80,7 +79,7 @@ pub(crate) fn more_parameters<'a>(alloc: Global, parts: &mut Parts<'a>) -> Made<
         return Ok(Part::Tokens(Vec::new(alloc)));
     }
     let name = accessors::token(parts);
-    Ok(Part::Tokens(with_first(name, accessors::tokens(parts))?))
+    list_with_first!(Tokens, name, accessors::tokens(parts))
 }
 
 // parameter = "int" name
@@ -108,10 +107,9 @@ pub(crate) fn statements<'a>(alloc: Global, parts: &mut Parts<'a>) -> Made<'a>
 {
     match parts.next() {
         None => Ok(Part::Statements(Vec::new(alloc))),
-        Some(Part::Statement(statement)) => Ok(Part::Statements(with_first(
-            statement,
-            accessors::statements(parts),
-        )?)),
+        Some(Part::Statement(statement)) => {
+            list_with_first!(Statements, statement, accessors::statements(parts))
+        }
         _ => unreachable!(),
     }
 }
@@ -169,7 +167,7 @@ pub(crate) fn more_tests<'a>(alloc: Global, parts: &mut Parts<'a>) -> Made<'a>
         return Ok(Part::Tests(Vec::new(alloc)));
     }
     match accessors::words(parts) {
-        Words::Test(test) => Ok(Part::Tests(with_first(test, accessors::tests(parts))?)),
+        Words::Test(test) => list_with_first!(Tests, test, accessors::tests(parts)),
         _ => unreachable!(),
     }
 }

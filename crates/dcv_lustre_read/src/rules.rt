@@ -8,7 +8,7 @@ ghost use Rattle.dcv_lustre_read.specs.Symbols.{seen_part, IsMeant};
 use crate::accessors;
 use crate::parts::{Made, Part, Parts, Words};
 use crate::placed::{PlacedEquation, PlacedLocal, PlacedTest};
-use dcv_translation::with_first;
+use dcv_translation::list_with_first;
 use std::alloc::Global;
 
 // more_inputs = {";" input}
@@ -20,7 +20,7 @@ pub(crate) fn more_inputs<'a>(alloc: Global, parts: &mut Parts<'a>) -> Made<'a>
         return Ok(Part::Tokens(Vec::new(alloc)));
     }
     let input = accessors::token(parts);
-    Ok(Part::Tokens(with_first(input, accessors::tokens(parts))?))
+    list_with_first!(Tokens, input, accessors::tokens(parts))
 }
 
 // input = name ":" "bool"
@@ -50,7 +50,7 @@ pub(crate) fn variables<'a>(alloc: Global, parts: &mut Parts<'a>) -> Made<'a>
         return Ok(Part::Locals(Vec::new(alloc)));
     }
     match accessors::words(parts) {
-        Words::Local(local) => Ok(Part::Locals(with_first(local, accessors::locals(parts))?)),
+        Words::Local(local) => list_with_first!(Locals, local, accessors::locals(parts)),
         _ => unreachable!(),
     }
 }
@@ -62,9 +62,7 @@ pub(crate) fn locals<'a>(alloc: Global, parts: &mut Parts<'a>) -> Made<'a>
 {
     match accessors::words_or_end(parts) {
         None => Ok(Part::Locals(Vec::new(alloc))),
-        Some(Words::Local(local)) => {
-            Ok(Part::Locals(with_first(local, accessors::locals(parts))?))
-        }
+        Some(Words::Local(local)) => list_with_first!(Locals, local, accessors::locals(parts)),
         _ => unreachable!(),
     }
 }
@@ -95,10 +93,9 @@ pub(crate) fn equations<'a>(alloc: Global, parts: &mut Parts<'a>) -> Made<'a>
 {
     match parts.next() {
         None => Ok(Part::Equations(Vec::new(alloc))),
-        Some(Part::Equation(equation)) => Ok(Part::Equations(with_first(
-            equation,
-            accessors::equations(parts),
-        )?)),
+        Some(Part::Equation(equation)) => {
+            list_with_first!(Equations, equation, accessors::equations(parts))
+        }
         _ => unreachable!(),
     }
 }
@@ -172,7 +169,7 @@ pub(crate) fn more_tests<'a>(alloc: Global, parts: &mut Parts<'a>) -> Made<'a>
         return Ok(Part::Tests(Vec::new(alloc)));
     }
     match accessors::words(parts) {
-        Words::Test(test) => Ok(Part::Tests(with_first(test, accessors::tests(parts))?)),
+        Words::Test(test) => list_with_first!(Tests, test, accessors::tests(parts)),
         _ => unreachable!(),
     }
 }
