@@ -1,15 +1,13 @@
 -- One more name is declared.
 use Rattle.std.proofs.Common.{◌≡◌, ℕ, ◌+◌, Bool, true, false, not, ◌&&◌, ◌||◌, List, [], ◌∷◌, ◌++◌, length, refl, sym, ap, subst, ◌∙◌, arith, inl, inr}
 use Rattle.std.specs.Prelude.{bytes_eq}
-use Rattle.std.proofs.Math.Bool.{or-false, or_assoc}
-use Rattle.std.proofs.lemmas.Bool.{or_from, or_left, or_right, or_cases, both_ways, false≢true, false_from_ne_true}
+use Rattle.std.proofs.Math.Bool.{and-true, or-false, or_assoc}
+use Rattle.std.proofs.lemmas.Bool.{and_parts, and_right, or_from, or_left, or_right, or_cases, both_ways, false_from_ne_true}
 use Rattle.dcv_observer.specs.Conditions.{Names}
 use Rattle.dcv_observer.specs.Naming.{is_among}
 use Rattle.dcv_observer.proofs.Naming.{is_itself, differs, among_append_left, among_append_right, distinct_push}
 use Rattle.dcv_c.specs.Rules.{keeps_new}
-use Rattle.dcv_c_read.specs.declared.scope.Sort.{Sort}
-use Rattle.dcv_c_read.specs.declared.scope.Sort.TheVariants.{Variable, Parameter}
-use Rattle.dcv_c_read.specs.Scope.{Row, Frame, with_function, with_names, is_variable, IsRow, KnowsNames}
+use Rattle.dcv_c_read.specs.Scope.{Row, Frame, with_function, with_names, IsRow, KnowsNames}
 use Rattle.dcv_translation.proofs.Rows.{rows_push}
 
 -- ---- one more name in a list
@@ -76,34 +74,22 @@ module _ (frame : Frame) (functions declared : Names) (rows : List Row) (knows :
 
     same_here : (names more : Names) (new : Bool) → Grows names new more → (n : List ℕ) → is_among frame.placed n ≡ true → is_among names n ≡ is_among more n
     same_here names more new grown n among =
-        sym (grown n ∙ ap (λ (b : Bool). is_among names n || (new && b)) (other_name n among) ∙ ap (λ (b : Bool). is_among names n || b) (never new) ∙ or-false (is_among names n))
-      where
-        never : (b : Bool) → (b && false) ≡ false
-        never true = refl
-        never false = refl
+        sym (grown n ∙ ap (λ (b : Bool). is_among names n || (new && b)) (other_name n among) ∙ ap (λ (b : Bool). is_among names n || b) (and_right new false refl) ∙ or-false (is_among names n))
 
     new_here : (names more : Names) (new : Bool) → Grows names new more → ((n : List ℕ) → is_among names n ≡ true → is_among frame.placed n ≡ true) → new ≡ is_among more name
     new_here names more new grown within =
-        sym (grown name ∙ ap (λ (b : Bool). b || (new && bytes_eq name name)) none ∙ ap (λ (b : Bool). new && b) (is_itself name) ∙ always new)
+        sym (grown name ∙ ap (λ (b : Bool). b || (new && bytes_eq name name)) none ∙ ap (λ (b : Bool). new && b) (is_itself name) ∙ and-true new)
       where
         none : is_among names name ≡ false
         none = false_from_ne_true (is_among names name) (λ some. both_ways (is_among frame.placed name) no_place (within name some))
-
-        always : (b : Bool) → (b && true) ≡ b
-        always true = refl
-        always false = refl
 
     within_push : (names more : Names) (new : Bool) → Grows names new more → ((n : List ℕ) → is_among names n ≡ true → is_among frame.placed n ≡ true)
         → (n : List ℕ) → is_among more n ≡ true → is_among (frame.placed ++ name ∷ []) n ≡ true
     within_push names more new grown within n some =
         elim (or_cases (is_among names n) (new && bytes_eq n name) (sym (grown n) ∙ some)) [
           | inl before ↦ among_append_left frame.placed (name ∷ []) n (within n before)
-          | inr here ↦ among_append_right frame.placed (name ∷ []) n (or_left (bytes_eq n name) false (second new (bytes_eq n name) here))
+          | inr here ↦ among_append_right frame.placed (name ∷ []) n (or_left (bytes_eq n name) false (and_parts new (bytes_eq n name) here).1)
         ]
-      where
-        second : (a b : Bool) → (a && b) ≡ true → b ≡ true
-        second true b both = both
-        second false b both = absurd (false≢true both)
 
     entered : (lefts known : Names) (is_left is_known : Bool) → Grows frame.lefts is_left lefts → Grows frame.known is_known known
         → KnowsNames (record { earlier = frame.earlier ++ name ∷ []; functions = frame.functions; placed = frame.placed ++ name ∷ []; lefts = lefts; known = known })
@@ -136,16 +122,16 @@ module _ (frame : Frame) (functions declared : Names) (rows : List Row) (knows :
               });
         }
 
-    by_sort : (sort : Sort) → KnowsNames (with_names sort (name ∷ []) frame) functions (declared ++ name ∷ [])
-        (rows ++ record { place = length rows; is_left = is_variable sort; is_known = not (is_variable sort) } ∷ [])
-    by_sort Variable = entered (frame.lefts ++ name ∷ []) frame.known true false (grows frame.lefts) (stays frame.known)
-    by_sort Parameter = entered frame.lefts (frame.known ++ name ∷ []) false true (stays frame.lefts) (grows frame.known)
+    by_kind : (is_left : Bool) → KnowsNames (with_names is_left (name ∷ []) frame) functions (declared ++ name ∷ [])
+        (rows ++ record { place = length rows; is_left = is_left; is_known = not is_left } ∷ [])
+    by_kind true = entered (frame.lefts ++ name ∷ []) frame.known true false (grows frame.lefts) (stays frame.known)
+    by_kind false = entered frame.lefts (frame.known ++ name ∷ []) false true (stays frame.lefts) (grows frame.known)
 
   -- what the code has then
-  pub name_declared : (sort : Sort) {more : Names} {more_rows : List Row} → is_among declared name ≡ false → more ≡ declared ++ name ∷ []
-      → more_rows ≡ rows ++ record { place = length rows; is_left = is_variable sort; is_known = not (is_variable sort) } ∷ []
-      → KnowsNames (with_names sort (name ∷ []) frame) functions more more_rows
-  name_declared sort {more = more} {more_rows = more_rows} no_place is rows_are =
-      subst (λ (ns : Names). KnowsNames (with_names sort (name ∷ []) frame) functions ns more_rows) (sym is)
-      (subst (λ (rs : List Row). KnowsNames (with_names sort (name ∷ []) frame) functions (declared ++ name ∷ []) rs) (sym rows_are)
-      (by_sort (subst (λ (names : Names). is_among names name ≡ false) knows.declared_are no_place) sort))
+  pub name_declared : (is_left : Bool) {more : Names} {more_rows : List Row} → is_among declared name ≡ false → more ≡ declared ++ name ∷ []
+      → more_rows ≡ rows ++ record { place = length rows; is_left = is_left; is_known = not is_left } ∷ []
+      → KnowsNames (with_names is_left (name ∷ []) frame) functions more more_rows
+  name_declared is_left {more = more} {more_rows = more_rows} no_place is rows_are =
+      subst (λ (ns : Names). KnowsNames (with_names is_left (name ∷ []) frame) functions ns more_rows) (sym is)
+      (subst (λ (rs : List Row). KnowsNames (with_names is_left (name ∷ []) frame) functions (declared ++ name ∷ []) rs) (sym rows_are)
+      (by_kind (subst (λ (names : Names). is_among names name ≡ false) knows.declared_are no_place) is_left))

@@ -1,5 +1,5 @@
 -- The parts make up a unit that keeps the rules, and no other fault is told than that of the first broken word.
-use Rattle.std.proofs.Common.{◌≡◌, ℕ, true, false, List, [], ◌∷◌, ◌++◌, map, refl, sym, ap, subst, ◌∙◌, append_assoc, inl, inr, ◌&&◌}
+use Rattle.std.proofs.Common.{◌≡◌, ℕ, true, false, List, [], ◌∷◌, ◌++◌, map, None, refl, sym, ap, subst, ◌∙◌, append_assoc, inl, inr, ◌&&◌}
 use Rattle.std.specs.Prelude.{bytes_eq}
 use Rattle.std.specs.List.{list_all}
 use Rattle.std.proofs.lemmas.Bool.{cases_Bool, or_cases, and_parts, both_ways, false_from_ne_true}
@@ -15,10 +15,11 @@ use Rattle.dcv_c.specs.Rules.{IsWellNamed, words_of, judged, has_all_assignments
 use Rattle.dcv_c.specs.Form.{IsSpellable}
 use Rattle.dcv_c.specs.Words.{AreWords}
 use Rattle.dcv_c.proofs.Readings.{is_subset}
-use Rattle.dcv_c_read.specs.declared.names.Contents.{Contents}
+use Rattle.dcv_c.specs.declared.unit.Reset.{Reset}
+use Rattle.dcv_c.specs.declared.unit.Step.{Step}
 use Rattle.dcv_observer.specs.Judged.{IsLeft}
 use Rattle.dcv_c_read.specs.Judged.{words_of_assignments}
-use Rattle.dcv_c_read.specs.Contents.{first_fault_of, words_of_step, keeps_step, AreContentsOf}
+use Rattle.dcv_c_read.specs.Contents.{first_fault_of, words_of_step, keeps_step, IsStepOf}
 use Rattle.dcv_c_read.proofs.Spellable.{words_are_spellable}
 
 -- ---- the whole unit
@@ -68,28 +69,36 @@ returned_at made statics parameters locals is = ap (λ (names : Names). seen_ret
 
 -- ---- the tree
 
-module _ (placed : PlacedUnit) (contents : Contents) (are : AreContentsOf placed contents) where
-  pub unit_is : seen_unit contents.statics.items contents.reset contents.step ≡ unit_of placed
+-- no word breaks a rule, and these are the parts of the unit
+pub record AreParts (placed : PlacedUnit) (statics : Names) (reset : Reset) (step : Step) : Type 0 where
+  pub unbroken : first_fault_of placed ≡ None
+  pub statics_are : statics ≡ (unit_of placed).statics
+  pub reset_is : reset.name ≡ (unit_of placed).reset
+  pub assignments_are : map (seen_assignment (names_of (unit_of placed))) reset.assignments.items ≡ (unit_of placed).assignments
+  pub step_is : IsStepOf (unit_of placed) step
+
+module _ (placed : PlacedUnit) (statics : Names) (reset : Reset) (step : Step) (are : AreParts placed statics reset step) where
+  pub unit_is : seen_unit statics reset step ≡ unit_of placed
   unit_is =
       let unit = unit_of placed in
-      let names : all_names contents.statics.items contents.step.parameters.items contents.step.locals.items ≡ names_of unit =
-      λ i. all_names (are.statics i) (are.step.parameters i) (are.step.locals i) in
-      let assignments = ap (λ (ns : Names). map (seen_assignment ns) contents.reset.assignments.items) names ∙ are.assignments in
-      let statements = ap (λ (ns : Names). map (seen_statement ns) contents.step.statements.items) names ∙ are.step.statements in
-      let returned = ap (λ (ns : Names). seen_returned ns contents.step.returned) names ∙ are.step.returned in
+      let names : all_names statics step.parameters.items step.locals.items ≡ names_of unit =
+      λ i. all_names (are.statics_are i) (are.step_is.parameters i) (are.step_is.locals i) in
+      let assignments = ap (λ (ns : Names). map (seen_assignment ns) reset.assignments.items) names ∙ are.assignments_are in
+      let statements = ap (λ (ns : Names). map (seen_statement ns) step.statements.items) names ∙ are.step_is.statements in
+      let returned = ap (λ (ns : Names). seen_returned ns step.returned) names ∙ are.step_is.returned in
       λ i.
       record {
-        statics = are.statics i;
-        reset = are.reset i;
+        statics = are.statics_are i;
+        reset = are.reset_is i;
         assignments = assignments i;
-        step = are.step.name i;
-        parameters = are.step.parameters i;
-        locals = are.step.locals i;
+        step = are.step_is.name i;
+        parameters = are.step_is.parameters i;
+        locals = are.step_is.locals i;
         statements = statements i;
         returned = returned i;
       }
 
-  pub is_unit : AreWords placed → IsUnit contents.statics.items contents.reset contents.step
+  pub is_unit : AreWords placed → IsUnit statics reset step
   is_unit words =
       record {
         well_named = subst IsWellNamed (sym unit_is) (well_named_if_unbroken is_subset placed are.unbroken);

@@ -1,18 +1,16 @@
--- What is in a unit that stands in a text, of code that has its names by places.
+-- The words of a unit that stands in a text, and its function that makes a step, of code that has its names by places.
 --     first_fault_of placed             where its first word begins that breaks a rule of names, if there is one
 --     IsStepOf unit step                the function that makes a step is this one
---     AreContentsOf placed contents     no word breaks a rule, and these are the unit's contents
-use Rattle.std.specs.Prelude.{◌≡◌, ℕ, Bool, List, ◌∷◌, ◌++◌, Option, None, map}
+use Rattle.std.specs.Prelude.{◌≡◌, ℕ, Bool, List, ◌∷◌, ◌++◌, Option, map}
 use Rattle.std.specs.List.{flat_map}
 use Rattle.dcv_lexer.specs.Cuts.{Token}
 use Rattle.dcv_observer.specs.Subsets.{first_broken}
 use Rattle.dcv_c.specs.declared.unit.Step.{Step}
 use Rattle.dcv_c.specs.Tree.{CUnit}
-use Rattle.dcv_c.specs.Seen.{seen_assignment, seen_statement, seen_returned, names_of}
+use Rattle.dcv_c.specs.Seen.{seen_statement, seen_returned, names_of}
 use Rattle.dcv_c.specs.Placed.{PlacedUnit, unit_of}
 use Rattle.dcv_c.specs.Rules.{words_of, judged, words_of_statement, words_of_returned}
 use Rattle.dcv_c.specs.Rules.{keeps_new, keeps_apart, keeps_parameters, keeps_statements, before_step, before_parameters, before_locals}
-use Rattle.dcv_c_read.specs.declared.names.Contents.{Contents}
 
 abbrev pub first_fault_of : PlacedUnit → Option ℕ
 first_fault_of placed = first_broken (words_of placed) (judged (unit_of placed))
@@ -34,10 +32,3 @@ pub record IsStepOf (unit : CUnit) (step : Step) : Type 0 where
   pub locals : step.locals.items ≡ unit.locals
   pub statements : map (seen_statement (names_of unit)) step.statements.items ≡ unit.statements
   pub returned : seen_returned (names_of unit) step.returned ≡ unit.returned
-
-pub record AreContentsOf (placed : PlacedUnit) (contents : Contents) : Type 0 where
-  pub unbroken : first_fault_of placed ≡ None
-  pub statics : contents.statics.items ≡ (unit_of placed).statics
-  pub reset : contents.reset.name ≡ (unit_of placed).reset
-  pub assignments : map (seen_assignment (names_of (unit_of placed))) contents.reset.assignments.items ≡ (unit_of placed).assignments
-  pub step : IsStepOf (unit_of placed) contents.step

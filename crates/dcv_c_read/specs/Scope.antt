@@ -2,14 +2,12 @@
 --     Frame                          the names that are declared so far, by what may be done with them
 --     Knows frame scope              what the code keeps tells of them
 --     IsNamed placed name place      the name with a place
-use Rattle.std.specs.Prelude.{◌≡◌, ℕ, ◌<◌, Bool, true, false, ◌||◌, List, [], ◌∷◌, ◌++◌, Option, Some, None, length, map}
+use Rattle.std.specs.Prelude.{◌≡◌, ℕ, ◌<◌, Bool, true, false, not, ◌||◌, List, [], ◌∷◌, ◌++◌, Option, Some, None, length, map}
 use Rattle.dcv_observer.specs.Conditions.{Names, name_at}
 use Rattle.dcv_observer.specs.Naming.{is_among, AreDistinct}
 use Rattle.dcv_c.specs.Tree.{CUnit}
 use Rattle.dcv_lexer.specs.Cuts.{Token}
-use Rattle.dcv_c.specs.Rules.{keeps_returned}
-use Rattle.dcv_c_read.specs.declared.scope.Sort.{Sort}
-use Rattle.dcv_c_read.specs.declared.scope.Sort.TheVariants.{Variable, Parameter}
+use Rattle.dcv_c.specs.Rules.{keeps_apart, keeps_parameters, keeps_returned}
 use Rattle.dcv_c_read.specs.declared.scope.Declaration.{Declaration}
 use Rattle.dcv_c_read.specs.declared.scope.Scope.{Scope}
 use Rattle.dcv_observer.specs.Judged.{IsLeft}
@@ -42,29 +40,25 @@ with_function name frame =
       known = frame.known;
     }
 
-abbrev pub with_variables : Names → Frame → Frame
-with_variables names frame =
+abbrev pub added : Bool → Names → Names → Names
+added true more names = names ++ more
+added false more names = names
+
+-- names with places: statics or locals, to which numbers may be assigned, or parameters, which are known
+abbrev pub with_names : Bool → Names → Frame → Frame
+with_names are_left names frame =
     record {
       earlier = frame.earlier ++ names;
       functions = frame.functions;
       placed = frame.placed ++ names;
-      lefts = frame.lefts ++ names;
-      known = frame.known;
+      lefts = added are_left names frame.lefts;
+      known = added (not are_left) names frame.known;
     }
 
-abbrev pub with_parameters : Names → Frame → Frame
-with_parameters names frame =
-    record {
-      earlier = frame.earlier ++ names;
-      functions = frame.functions;
-      placed = frame.placed ++ names;
-      lefts = frame.lefts;
-      known = frame.known ++ names;
-    }
-
-abbrev pub with_names : Sort → Names → Frame → Frame
-with_names Variable names frame = with_variables names frame
-with_names Parameter names frame = with_parameters names frame
+-- whether each of them keeps its rule, where the first is at a place
+abbrev pub keeps_names : Bool → Names → ℕ → Names → List Bool
+keeps_names true earlier place names = keeps_apart earlier names
+keeps_names false earlier place names = keeps_parameters earlier place names
 
 -- these are known
 abbrev pub with_known : Names → Frame → Frame
@@ -73,7 +67,7 @@ with_known known frame =
 
 -- the statics of a unit
 abbrev pub of_statics : Names → Frame
-of_statics statics = with_variables statics no_names
+of_statics statics = with_names true statics no_names
 
 -- after the function that sets them
 abbrev pub behind_reset : CUnit → Frame
@@ -81,7 +75,7 @@ behind_reset unit = with_known unit.statics (with_function unit.reset (of_static
 
 -- where the statements of a step begin
 abbrev pub behind_locals : CUnit → Frame
-behind_locals unit = with_variables unit.locals (with_parameters unit.parameters (with_function unit.step (behind_reset unit)))
+behind_locals unit = with_names true unit.locals (with_names false unit.parameters (with_function unit.step (behind_reset unit)))
 
 -- ---- what the code keeps
 
@@ -90,12 +84,8 @@ pub record Row : Type 0 where
   pub is_left : Bool
   pub is_known : Bool
 
-abbrev pub is_variable : Sort → Bool
-is_variable Variable = true
-is_variable Parameter = false
-
 abbrev pub seen_row : Declaration → Row
-seen_row name = record { place = name.place; is_left = is_variable name.sort; is_known = name.known }
+seen_row name = record { place = name.place; is_left = name.is_left; is_known = name.known }
 
 pub record IsRow (lefts known : Names) (place : ℕ) (name : List ℕ) (row : Row) : Type 0 where
   pub is_at : row.place ≡ place

@@ -31,7 +31,7 @@ impl<'a> Scope<'a> {
         let Some(name) = self.find(word.bytes) else {
             return Err(broken(word));
         };
-        if !name.is_left() {
+        if !name.is_left {
             return Err(broken(word));
         }
         if name.known {

@@ -1,18 +1,18 @@
 // The names of a unit that stands in a text: each is judged, in the order of the text, and becomes a place. So the unit becomes a tree.
-ghost use Rattle.std.specs.Prelude.{◌≡◌, ◌≢◌, ◌<◌, [], ◌++◌, ℕ, Bool, List, Option, map, IfOk, IfErr};
+ghost use Rattle.std.specs.Prelude.{◌≡◌, ◌≢◌, ◌<◌, ◌||◌, [], ◌++◌, ℕ, Bool, not, nat_lt, List, Option, map, IfOk, IfErr};
 ghost use Rattle.dcv_lexer.specs.Cuts.{Token};
 ghost use Rattle.dcv_observer.specs.Left.{seen};
 ghost use Rattle.dcv_observer.specs.declared.fault.ObsFault.TheVariants.{Names, Memory};
 ghost use Rattle.dcv_c.specs.Placed.{bytes_of, unit_of};
 ghost use Rattle.dcv_c.specs.Actions.{Spells};
 ghost use Rattle.dcv_c.specs.Words.{AreWords};
-ghost use Rattle.dcv_c.specs.Rules.{IsNamesFault, keeps_apart, keeps_parameters};
+ghost use Rattle.dcv_c.specs.Rules.{IsNamesFault, most_parameters};
 ghost use Rattle.dcv_c_read.specs.Seen.{seen_unit};
 ghost use Rattle.dcv_observer.specs.Judged.{Leads, IsLeft};
 
 use crate::placed::PlacedUnit;
-use crate::scope::{Scope, Sort};
-use dcv_c::{CUnit, ObsFault, Reset, Step};
+use crate::scope::Scope;
+use dcv_c::{CUnit, ObsFault, Step};
 use dcv_language::MOST_VARIABLES;
 use dcv_observer::{Item, broken};
 use dcv_syntax::Text;
@@ -21,52 +21,37 @@ use std::alloc::Global;
 /// How many parameters a step may have.
 const MOST_PARAMETERS: usize = MOST_VARIABLES;
 
-/// What is in a unit, its names by places.
-#[derive(Drop)]
-struct Contents {
-    // the variables that keep their values
-    statics: Vec<Text>,
-    // the function that begins anew
-    reset: Reset,
-    // the function of one instant
-    step: Step,
+// Whether a name at a place is one parameter too many.
+fn is_beyond(place: usize, is_left: bool) -> bool
+    ensures { result ≡ not (is_left || nat_lt place most_parameters) }
+{
+    !is_left && place >= MOST_PARAMETERS
 }
 
 impl<'a> Scope<'a> {
-    ghost use Rattle.dcv_c_read.specs.Scope.{Frame, no_names, with_variables, with_parameters, behind_reset, Knows};
-    ghost use Rattle.dcv_c_read.specs.Contents.{first_fault_of, words_of_step, keeps_step, IsStepOf, AreContentsOf};
+    ghost use Rattle.dcv_c_read.specs.Scope.{Frame, no_names, with_names, keeps_names, behind_reset, Knows};
+    ghost use Rattle.dcv_c_read.specs.Contents.{first_fault_of, words_of_step, keeps_step, IsStepOf};
 
-    // Declares statics or locals.
-    fn variables(&mut self, alloc: Global, words: &[Item<'a>]) -> Result<Vec<Text>, ObsFault>
+    // Declares statics or locals, to which numbers may be assigned, or parameters.
+    fn declare_all(
+        &mut self,
+        alloc: Global,
+        words: &[Item<'a>],
+        are_left: bool,
+    ) -> Result<Vec<Text>, ObsFault>
         ensures { (frame : Frame) → Knows frame self.old
             → (whole : Option ℕ) (others : List Token) (keeps : List Bool)
-            → IsLeft whole (map seen words.now ++ others) (keeps_apart frame.earlier (bytes_of (map seen words.now)) ++ keeps)
+            → IsLeft whole (map seen words.now ++ others) (keeps_names are_left frame.earlier 0 (bytes_of (map seen words.now)) ++ keeps)
             → Leads whole (λ texts. (texts.items ≡ bytes_of (map seen words.now))
-            × Knows (with_variables (bytes_of (map seen words.now)) frame) self.new
-            × IsLeft whole others keeps) result }
-    {
-        let mut texts = Vec::new(alloc);
-        for word in words {
-            self.declare(word, Sort::Variable)?;
-            texts.push(Text::copy_of(alloc, word.bytes)?)?;
-        }
-        Ok(texts)
-    }
-
-    fn parameters(&mut self, alloc: Global, words: &[Item<'a>]) -> Result<Vec<Text>, ObsFault>
-        ensures { (frame : Frame) → Knows frame self.old
-            → (whole : Option ℕ) (others : List Token) (keeps : List Bool)
-            → IsLeft whole (map seen words.now ++ others) (keeps_parameters frame.earlier 0 (bytes_of (map seen words.now)) ++ keeps)
-            → Leads whole (λ texts. (texts.items ≡ bytes_of (map seen words.now))
-            × Knows (with_parameters (bytes_of (map seen words.now)) frame) self.new
+            × Knows (with_names are_left (bytes_of (map seen words.now)) frame) self.new
             × IsLeft whole others keeps) result }
     {
         let mut texts = Vec::new(alloc);
         for (place, word) in words.iter().enumerate() {
-            if place >= MOST_PARAMETERS {
+            if is_beyond(place, are_left) {
                 return Err(broken(word));
             }
-            self.declare(word, Sort::Parameter)?;
+            self.declare(word, are_left)?;
             texts.push(Text::copy_of(alloc, word.bytes)?)?;
         }
         Ok(texts)
@@ -82,8 +67,8 @@ impl<'a> Scope<'a> {
         let step = &placed.step;
         self.function(&step.name)?;
         let name = Text::copy_of(alloc, step.name.bytes)?;
-        let parameters = self.parameters(alloc, &step.parameters)?;
-        let locals = self.variables(alloc, &step.locals)?;
+        let parameters = self.declare_all(alloc, &step.parameters, false)?;
+        let locals = self.declare_all(alloc, &step.locals, true)?;
         let statements = self.statements(alloc, &step.statements)?;
         let returned = self.returned(alloc, &step.returned)?;
         Ok(Step {
@@ -95,20 +80,16 @@ impl<'a> Scope<'a> {
         })
     }
 
-    // All that is in a unit, where no name is declared yet.
-    fn contents(&mut self, alloc: Global, placed: &PlacedUnit<'a>) -> Result<Contents, ObsFault>
+    // The whole unit, where no name is declared yet.
+    fn unit(&mut self, alloc: Global, placed: &PlacedUnit<'a>) -> Result<CUnit, ObsFault>
         requires words { AreWords (seen_unit placed.now) }
         requires none { Knows no_names self.old }
-        ensures { Leads (first_fault_of (seen_unit placed.now)) (AreContentsOf (seen_unit placed.now)) result }
+        ensures { Leads (first_fault_of (seen_unit placed.now)) (λ unit. unit ≡ unit_of (seen_unit placed.now)) result }
     {
-        let statics = self.variables(alloc, &placed.statics)?;
+        let statics = self.declare_all(alloc, &placed.statics, true)?;
         let reset = self.reset(alloc, &placed.reset)?;
         let step = self.step(alloc, placed)?;
-        Ok(Contents {
-            statics,
-            reset,
-            step,
-        })
+        Ok(CUnit::new(statics, reset, step))
     }
 }
 
@@ -120,12 +101,7 @@ pub(crate) fn named(alloc: Global, placed: &PlacedUnit<'_>) -> Result<CUnit, Obs
         → (at : ℕ) × (fault ≡ Names at) × IsNamesFault (seen_unit placed.now) at) }
 {
     let mut scope = Scope::new(alloc);
-    let contents = scope.contents(alloc, placed);
+    let unit = scope.unit(alloc, placed);
     drop(scope);
-    let Contents {
-        statics,
-        reset,
-        step,
-    } = contents?;
-    Ok(CUnit::new(statics, reset, step))
+    unit
 }

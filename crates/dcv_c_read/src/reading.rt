@@ -27,20 +27,22 @@ pub fn read(alloc: Global, bytes: &[u8]) -> Result<CUnit, ObsFault>
 {
     texts_are_units_or_at_fault();
     let placed = placed_unit(alloc, bytes)?;
-    let unit = named(alloc, &placed)?;
+    let read = named(alloc, &placed);
+    drop(placed);
+    let unit = read?;
     // for the prover: what is true of every unit.
     unit.keeps_the_rules();
     Ok(unit)
 }
 
 // The unit that stands in a text.
-pub(crate) fn placed_unit<'a>(alloc: Global, text: &'a [u8]) -> Result<PlacedUnit<'a>, ObsFault>
+fn placed_unit<'a>(alloc: Global, text: &'a [u8]) -> Result<Box<PlacedUnit<'a>>, ObsFault>
     requires { length text.now < 2 ^ 32 }
-    ensures spelled { IfOk result (λ placed. Spells text.now (seen_unit placed)) }
+    ensures spelled { IfOk result (λ placed. Spells text.now (seen_unit placed.value)) }
     ensures fault { IfErr result (λ fault. fault ≢ Memory → (at : ℕ) × (fault ≡ Syntax at) × IsSyntaxFault lexicon language text.now at) }
 {
     match translate(alloc, &UnitTranslation { alloc }, text)? {
-        Part::Unit(placed) => Ok(Box::into_inner(placed)),
+        Part::Unit(placed) => Ok(placed),
         _ => unreachable!(),
     }
 }

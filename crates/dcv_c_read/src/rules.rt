@@ -8,6 +8,7 @@ ghost use Rattle.dcv_c_read.specs.Symbols.{seen_part, IsMeant};
 use crate::accessors;
 use crate::parts::{Made, Part, Parts, Words};
 use crate::placed::{PlacedAssignment, PlacedTest, PlacedTests};
+use dcv_translation::list_with_first;
 use std::alloc::Global;
 
 // static = "static" "int" name ";"
@@ -27,11 +28,7 @@ pub(crate) fn tokens<'a>(alloc: Global, parts: &mut Parts<'a>) -> Made<'a>
 {
     match accessors::token_or_end(parts) {
         None => Ok(Part::Tokens(Vec::new(alloc))),
-        Some(name) => {
-            let mut names = accessors::tokens(parts);
-            names.push(name)?;
-            Ok(Part::Tokens(names))
-        }
+        Some(name) => list_with_first!(Tokens, name, accessors::tokens(parts)),
     }
 }
 
@@ -43,9 +40,7 @@ pub(crate) fn assignments<'a>(alloc: Global, parts: &mut Parts<'a>) -> Made<'a>
     match accessors::words_or_end(parts) {
         None => Ok(Part::Assignments(Vec::new(alloc))),
         Some(Words::Assignment(assignment)) => {
-            let mut assignments = accessors::assignments(parts);
-            assignments.push(assignment)?;
-            Ok(Part::Assignments(assignments))
+            list_with_first!(Assignments, assignment, accessors::assignments(parts))
         }
         _ => unreachable!(),
     }
@@ -70,10 +65,7 @@ pub(crate) fn parameters<'a>(alloc: Global, parts: &mut Parts<'a>) -> Made<'a>
     let name = accessors::token(parts);
     match parts.next() {
         None => Ok(Part::Tokens(Vec::new(alloc))),
-        Some(Part::Tokens(mut names)) => {
-            names.push(name)?;
-            Ok(Part::Tokens(names))
-        }
+        Some(Part::Tokens(names)) => list_with_first!(Tokens, name, names),
         _ => unreachable!(),
     }
 }
@@ -87,9 +79,7 @@ pub(crate) fn more_parameters<'a>(alloc: Global, parts: &mut Parts<'a>) -> Made<
         return Ok(Part::Tokens(Vec::new(alloc)));
     }
     let name = accessors::token(parts);
-    let mut names = accessors::tokens(parts);
-    names.push(name)?;
-    Ok(Part::Tokens(names))
+    list_with_first!(Tokens, name, accessors::tokens(parts))
 }
 
 // parameter = "int" name
@@ -118,9 +108,7 @@ pub(crate) fn statements<'a>(alloc: Global, parts: &mut Parts<'a>) -> Made<'a>
     match parts.next() {
         None => Ok(Part::Statements(Vec::new(alloc))),
         Some(Part::Statement(statement)) => {
-            let mut statements = accessors::statements(parts);
-            statements.push(statement)?;
-            Ok(Part::Statements(statements))
+            list_with_first!(Statements, statement, accessors::statements(parts))
         }
         _ => unreachable!(),
     }
@@ -179,11 +167,7 @@ pub(crate) fn more_tests<'a>(alloc: Global, parts: &mut Parts<'a>) -> Made<'a>
         return Ok(Part::Tests(Vec::new(alloc)));
     }
     match accessors::words(parts) {
-        Words::Test(test) => {
-            let mut tests = accessors::tests(parts);
-            tests.push(test)?;
-            Ok(Part::Tests(tests))
-        }
+        Words::Test(test) => list_with_first!(Tests, test, accessors::tests(parts)),
         _ => unreachable!(),
     }
 }

@@ -6,58 +6,22 @@ ghost use Rattle.dcv_observer.specs.Left.{seen};
 ghost use Rattle.dcv_observer.specs.Naming.{is_among};
 ghost use Rattle.dcv_c.specs.Rules.{keeps_new};
 ghost use Rattle.dcv_observer.specs.Judged.{Leads, IsLeft};
-ghost use Rattle.dcv_c_read.specs.Scope.{is_variable, seen_row, as_known};
+ghost use Rattle.dcv_c_read.specs.Scope.{seen_row, as_known};
 ghost use Rattle.dcv_translation.specs.Rows.{changed};
 
 use dcv_c::ObsFault;
 use dcv_observer::{Declared, Item, broken};
 use std::alloc::Global;
 
-/// What a name with a place stands for.
-#[derive(Clone, Copy)]
-pub(crate) enum Sort {
-    /// A static or a local, which has a number once it is assigned.
-    Variable,
-    /// It has a number from the start, and none is assigned to it.
-    Parameter,
-}
-
-impl Sort {
-    fn is_variable(self) -> bool
-        ensures { result ≡ is_variable self }
-    {
-        match self {
-            Sort::Variable => true,
-            Sort::Parameter => false,
-        }
-    }
-}
-
 /// What is told of a name where it is declared, and whether it is known: a parameter, or on the left of an earlier assignment.
 #[derive(Clone, Copy)]
 pub(crate) struct Declaration {
     // the number of the name
     pub(crate) place: u32,
-    // what the name was declared as
-    pub(crate) sort: Sort,
+    // whether a number may be assigned to it: it is a static or a local, and no parameter
+    pub(crate) is_left: bool,
     // whether it has a value where it stands
     pub(crate) known: bool,
-}
-
-impl Declaration {
-    /// Whether a number may be assigned to it.
-    pub(crate) fn is_left(&self) -> bool
-        ensures { result ≡ is_variable self.now.sort }
-    {
-        self.sort.is_variable()
-    }
-
-    /// Whether a statement may read it.
-    pub(crate) fn is_read(&self) -> bool
-        ensures { result ≡ self.now.known }
-    {
-        self.known
-    }
 }
 
 /// The names that are declared.
@@ -113,12 +77,12 @@ impl<'a> Scope<'a> {
         Ok(())
     }
 
-    /// Adds a name with a place.
-    pub(crate) fn declare(&mut self, word: &Item<'a>, sort: Sort) -> Result<(), ObsFault>
+    /// Adds a name with a place. A parameter has a number from the start, and none is assigned to it.
+    pub(crate) fn declare(&mut self, word: &Item<'a>, is_left: bool) -> Result<(), ObsFault>
         ensures { (frame : Frame) → Knows frame self.old
             → (whole : Option ℕ) (words : List Token) (keeps : List Bool)
             → IsLeft whole (seen word.now ∷ words) (keeps_new frame.earlier (seen word.now).bytes ∷ keeps)
-            → Leads whole (λ _. Knows (with_names sort ((seen word.now).bytes ∷ []) frame) self.new × IsLeft whole words keeps) result }
+            → Leads whole (λ _. Knows (with_names is_left ((seen word.now).bytes ∷ []) frame) self.new × IsLeft whole words keeps) result }
     {
         let place = self.names.len();
         if place > u32::MAX as usize {
@@ -132,8 +96,8 @@ impl<'a> Scope<'a> {
         }
         let declaration = Declaration {
             place: place as u32,
-            sort,
-            known: !sort.is_variable(),
+            is_left,
+            known: !is_left,
         };
         self.names.push(declaration)?;
         Ok(())

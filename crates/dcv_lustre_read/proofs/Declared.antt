@@ -12,7 +12,7 @@ use Rattle.dcv_lustre.specs.Rules.{is_same_kind, kind_of, keeps_equations, has_a
 use Rattle.dcv_lustre_read.specs.Scope.{Told, Row, told_inputs, told_locals, told_of, rows_from, keeps_from, IsDeclaring, IsRow, Knows, KnowsAll, seen_row}
 use Rattle.dcv_observer.specs.Judged.{IsLeft}
 use Rattle.dcv_lustre_read.specs.Judged.{words_of_equations, words_of_locals, names_of_locals}
-use Rattle.dcv_lustre_read.specs.Contents.{first_fault_of}
+use Rattle.dcv_lustre_read.specs.Contents.{first_fault_of, words_behind, keeps_behind}
 use Rattle.dcv_lustre_read.specs.declared.placed.PlacedNode.{PlacedNode as CodeNode}
 use Rattle.dcv_lustre_read.specs.declared.placed.PlacedLocal.{PlacedLocal as CodeLocal}
 use Rattle.dcv_lustre_read.specs.declared.placed.PlacedEquation.{PlacedEquation as CodeEquation}
@@ -124,15 +124,11 @@ declared_knows {node = node} {names = names} {rows = rows} d =
 
 -- its own name is declared
 pub declaring_begins : (placed : PlacedNode)
-    → IsDeclaring (node_of placed) (first_fault_of placed) (words_of_equations placed.equations ++ placed.tel ∷ [])
-    (keeps_equations (node_of placed) [] (node_of placed).equations ++ has_all_equations (node_of placed) ∷ [])
+    → IsDeclaring (node_of placed) (first_fault_of placed) (words_behind placed) (keeps_behind (node_of placed))
     (placed.name.bytes ∷ []) [] (placed.inputs ++ (placed.output ∷ words_of_locals placed.locals))
     (bytes_of placed.inputs ++ (ok ∷ names_of_locals placed.locals)) (told_inputs (bytes_of placed.inputs) ++ ((OfTruth, false) ∷ told_locals (map local_of placed.locals)))
 unfolding words_of judged
 declaring_begins placed =
-    let others = words_of_equations placed.equations ++ placed.tel ∷ [] in
-    let node = node_of placed in
-    let others_keep = keeps_equations node [] node.equations ++ has_all_equations node ∷ [] in
     record {
       all = refl;
       distinct = (refl, tt);
@@ -140,8 +136,8 @@ declaring_begins placed =
       numbered = refl;
       left =
           record {
-            first = ap (λ (words : List Token). first_broken words (keeps_from node 1 (names_of node) ++ others_keep))
-                (append_assoc placed.inputs (placed.output ∷ words_of_locals placed.locals) others);
+            first = ap (λ (words : List Token). first_broken words (keeps_from (node_of placed) 1 (names_of (node_of placed)) ++ keeps_behind (node_of placed)))
+                (append_assoc placed.inputs (placed.output ∷ words_of_locals placed.locals) (words_behind placed));
           };
     }
 
@@ -151,12 +147,6 @@ module _ (placed : CodeNode) where
 
   abbrev pub whole_at : Option ℕ
   whole_at = first_fault_of (seen_node placed)
-
-  abbrev pub others_at : List Token
-  others_at = words_of_equations (map seen_equation placed.equations.items) ++ seen placed.tel ∷ []
-
-  abbrev pub others_keep_at : List Bool
-  others_keep_at = keeps_equations node_at [] node_at.equations ++ has_all_equations node_at ∷ []
 
   abbrev pub output_words : List Token
   output_words = seen placed.output ∷ words_of_locals (map seen_local placed.locals.items)
@@ -169,7 +159,7 @@ module _ (placed : CodeNode) where
 
   abbrev pub AtInputs : List Item → Names → List Row → Type 0
   AtInputs items names rows =
-      IsDeclaring node_at whole_at others_at others_keep_at names rows (map seen items ++ output_words) (bytes_of (map seen items) ++ output_names)
+      IsDeclaring node_at whole_at (words_behind (seen_node placed)) (keeps_behind node_at) names rows (map seen items ++ output_words) (bytes_of (map seen items) ++ output_names)
       (told_inputs (bytes_of (map seen items)) ++ output_told)
 
   pub at_inputs : {items : List Item} {names : Names} {rows : List Declaration} → items ≡ placed.inputs.items → names ≡ (seen_node placed).name.bytes ∷ [] → rows ≡ []
@@ -188,7 +178,7 @@ module _ (placed : CodeNode) where
 
   abbrev pub AtLocals : List CodeLocal → Names → List Row → Type 0
   AtLocals items names rows =
-      IsDeclaring node_at whole_at others_at others_keep_at names rows (words_of_locals (map seen_local items)) (names_of_locals (map seen_local items))
+      IsDeclaring node_at whole_at (words_behind (seen_node placed)) (keeps_behind node_at) names rows (words_of_locals (map seen_local items)) (names_of_locals (map seen_local items))
       (told_locals (map local_of (map seen_local items)))
 
   pub at_locals : {items : List CodeLocal} {names : Names} {rows : List Row} → items ≡ placed.locals.items → AtLocals placed.locals.items names rows → AtLocals items names rows
@@ -198,7 +188,7 @@ module _ (placed : CodeNode) where
   AtEquations items =
       IsLeft whole_at (words_of_equations (map seen_equation items) ++ seen placed.tel ∷ []) (keeps_equations node_at [] (map equation_of (map seen_equation items)) ++ has_all_equations node_at ∷ [])
 
-  pub at_equations : {items : List CodeEquation} → items ≡ placed.equations.items → IsLeft whole_at others_at others_keep_at → AtEquations items
+  pub at_equations : {items : List CodeEquation} → items ≡ placed.equations.items → IsLeft whole_at (words_behind (seen_node placed)) (keeps_behind node_at) → AtEquations items
   at_equations is left = subst AtEquations (sym is) left
 
   pub at_tel : {items : List CodeEquation} {names : Names} {rows : List Row} → items ≡ placed.equations.items → KnowsAll node_at (map equation_of (map seen_equation items)) names rows

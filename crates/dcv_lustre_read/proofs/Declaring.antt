@@ -1,7 +1,9 @@
 -- One more name is declared.
 use Rattle.std.proofs.Common.{◌≡◌, ℕ, ◌+◌, Bool, true, false, not, ◌&&◌, List, [], ◌∷◌, ◌++◌, length, take, Option, Some, refl, sym, ap, subst, ◌∙◌, arith}
 use Rattle.std.proofs.Common.{append_assoc, length-append}
+use Rattle.std.proofs.lemmas.Bool.{and_right}
 use Rattle.std.proofs.lemmas.List.{take_at}
+use Rattle.std.proofs.Math.Bool.{and-true}
 use Rattle.dcv_lexer.specs.Cuts.{Token}
 use Rattle.dcv_observer.specs.Conditions.{Names}
 use Rattle.dcv_observer.specs.Naming.{is_among}
@@ -11,10 +13,6 @@ use Rattle.dcv_lustre.specs.Rules.{declared, keeps_declared}
 use Rattle.dcv_lustre_read.specs.Scope.{Told, Row, rows_from, is_within, keeps_from, IsDeclaring}
 use Rattle.dcv_observer.specs.Judged.{IsLeft}
 use Rattle.dcv_observer.proofs.Judging.{kept, broken}
-
-with_true : (b : Bool) → (b && true) ≡ b
-with_true true = refl
-with_true false = refl
 
 module _ (node : Node) (whole : Option ℕ) (others : List Token) (others_keep : List Bool) (names : Names) (rows : List Row) (name word : List ℕ) (at : ℕ)
     (kind : Kind) (known : Bool) (words : List Token) (later : Names) (told : List Told)
@@ -26,15 +24,11 @@ module _ (node : Node) (whole : Option ℕ) (others : List Token) (others_keep :
 
   -- there are too many inputs
   pub declared_beyond : is_within node (length names) ≡ false → whole ≡ Some at
-  declared_beyond beyond = broken (keeps_is ∙ both (not (is_among names name))) d.left
-    where
-      both : (b : Bool) → (b && is_within node (length names)) ≡ false
-      both true = beyond
-      both false = refl
+  declared_beyond beyond = broken (keeps_is ∙ and_right (not (is_among names name)) (is_within node (length names)) beyond) d.left
 
   module _ (within : is_within node (length names) ≡ true) where
     keeps_new : keeps_declared node (length names) name ≡ not (is_among names name)
-    keeps_new = keeps_is ∙ ap (λ (w : Bool). not (is_among names name) && w) within ∙ with_true (not (is_among names name))
+    keeps_new = keeps_is ∙ ap (λ (w : Bool). not (is_among names name) && w) within ∙ and-true (not (is_among names name))
 
     pub declared_again : is_among names name ≡ true → whole ≡ Some at
     declared_again again = broken (keeps_new ∙ ap not again) d.left

@@ -1,5 +1,4 @@
-// The parts of a body, taken one after another: each function takes the next part, which is of a kind that is known. What is copied out of a part of
-// words owns nothing, so that part is forgotten and not dropped.
+// The parts of a body, taken one after another: each function takes the next part, which is of a kind that is known.
 ghost use Rattle.std.specs.Prelude.{◌≡◌, ◌∷◌, map, reverse};
 ghost use Rattle.dcv_observer.specs.Left.{seen};
 ghost use Rattle.dcv_translation.specs.Taken.{Begins, EndsOrBegins, Takes};
@@ -11,20 +10,17 @@ ghost use Rattle.dcv_lustre_read.specs.Taken.{AreWords, IsToken, AreTokens, AreL
 use crate::parts::{Part, Parts, Words};
 use crate::placed::{PlacedEquation, PlacedLocal, PlacedTest};
 use dcv_observer::Item;
-use dcv_translation::next_of;
+use dcv_translation::{copy_of_next, next_of};
 use std::mem::forget;
 
 pub(crate) fn words<'a>(parts: &mut Parts<'a>) -> Words<'a>
     requires { Begins AreWords (map seen_part parts.old) }
     ensures { map seen_part parts.old ≡ seen_words result ∷ map seen_part parts.new }
 {
-    let next = parts.next();
-    let words = match &next {
-        Some(Part::Words(words)) => *words,
-        _ => unreachable!(),
-    };
-    forget(next);
-    words
+    match words_or_end(parts) {
+        Some(words) => words,
+        None => unreachable!(),
+    }
 }
 
 // None at the end of the body.
@@ -32,27 +28,14 @@ pub(crate) fn words_or_end<'a>(parts: &mut Parts<'a>) -> Option<Words<'a>>
     requires { EndsOrBegins AreWords (map seen_part parts.old) }
     ensures { Takes seen_words result (map seen_part parts.old) (map seen_part parts.new) }
 {
-    let next = parts.next();
-    let words = match &next {
-        None => None,
-        Some(Part::Words(words)) => Some(*words),
-        _ => unreachable!(),
-    };
-    forget(next);
-    words
+    copy_of_next!(parts, None => None, Some(Part::Words(words)) => Some(*words))
 }
 
 pub(crate) fn token<'a>(parts: &mut Parts<'a>) -> Item<'a>
     requires { Begins IsToken (map seen_part parts.old) }
     ensures { map seen_part parts.old ≡ AToken (seen result) ∷ map seen_part parts.new }
 {
-    let next = parts.next();
-    let token = match &next {
-        Some(Part::Words(Words::Token(item))) => *item,
-        _ => unreachable!(),
-    };
-    forget(next);
-    token
+    copy_of_next!(parts, Some(Part::Words(Words::Token(item))) => *item)
 }
 
 // None at the end of the body.
@@ -60,14 +43,7 @@ pub(crate) fn token_or_end<'a>(parts: &mut Parts<'a>) -> Option<Item<'a>>
     requires { EndsOrBegins IsToken (map seen_part parts.old) }
     ensures { Takes (λ item. AToken (seen item)) result (map seen_part parts.old) (map seen_part parts.new) }
 {
-    let next = parts.next();
-    let token = match &next {
-        None => None,
-        Some(Part::Words(Words::Token(item))) => Some(*item),
-        _ => unreachable!(),
-    };
-    forget(next);
-    token
+    copy_of_next!(parts, None => None, Some(Part::Words(Words::Token(item))) => Some(*item))
 }
 
 pub(crate) fn tokens<'a>(parts: &mut Parts<'a>) -> Vec<Item<'a>>

@@ -8,11 +8,10 @@ ghost use Rattle.dcv_lustre.specs.Placed.{bytes_of, local_of, node_of};
 ghost use Rattle.dcv_lustre.specs.Actions.{Spells};
 ghost use Rattle.dcv_lustre.specs.Words.{AreWords};
 ghost use Rattle.dcv_lustre.specs.Seen.{seen_local as local_seen};
-ghost use Rattle.dcv_lustre.specs.Tree.{Node as PlainNode, OfTruth};
-ghost use Rattle.dcv_lustre.specs.Meaning.{ok};
+ghost use Rattle.dcv_lustre.specs.Tree.{Node as PlainNode};
 ghost use Rattle.dcv_lustre.specs.Rules.{IsNamesFault};
 ghost use Rattle.dcv_lustre_read.specs.Seen.{seen_local, seen_node};
-ghost use Rattle.dcv_lustre_read.specs.Scope.{seen_row, Told, told_inputs, told_locals, IsDeclaring, is_within};
+ghost use Rattle.dcv_lustre_read.specs.Scope.{seen_row, Told, told_inputs, told_locals, IsDeclaring};
 ghost use Rattle.dcv_observer.specs.Judged.{Leads};
 ghost use Rattle.dcv_lustre_read.specs.Judged.{words_of_locals, names_of_locals};
 
@@ -20,7 +19,7 @@ use crate::constants::kind_at;
 use crate::placed::{PlacedLocal, PlacedNode};
 use crate::scope::Scope;
 use dcv_language::MOST_VARIABLES;
-use dcv_lustre::{Equation, Kind, Local, Node, ObsFault};
+use dcv_lustre::{Kind, Local, Node, ObsFault};
 use dcv_observer::{Declared, Item, broken};
 use dcv_syntax::Text;
 use std::alloc::Global;
@@ -28,19 +27,8 @@ use std::alloc::Global;
 /// How many inputs a node may have.
 const MOST_INPUTS: usize = MOST_VARIABLES;
 
-/// What is in a node, its names by places.
-#[derive(Drop)]
-struct Contents {
-    // the inputs
-    inputs: Vec<Text>,
-    // the local variables with their types
-    locals: Vec<Local>,
-    // the equations, in order
-    equations: Vec<Equation>,
-}
-
 impl<'a> Scope<'a> {
-    ghost use Rattle.dcv_lustre_read.specs.Contents.{first_fault_of, AreContentsOf};
+    ghost use Rattle.dcv_lustre_read.specs.Contents.{first_fault_of, AreDeclared};
 
     // The name of the node is declared, and no other.
     fn of_node(alloc: Global, name: &Item<'a>) -> Result<Scope<'a>, ObsFault>
@@ -78,18 +66,6 @@ impl<'a> Scope<'a> {
         Ok(texts)
     }
 
-    fn output(&mut self, output: &Item<'_>) -> Result<(), ObsFault>
-        ensures { (node : PlainNode) (whole : Option ℕ) (others : List Token) (others_keep : List Bool)
-            (words : List Token) (later : PlainNames) (told : List Told)
-            → IsDeclaring node whole others others_keep self.old.declared (map seen_row self.old.names.items)
-            (seen output.now ∷ words) (ok ∷ later) ((OfTruth, false) ∷ told)
-            → is_within node (length self.old.declared) ≡ true
-            → Leads whole (λ _. IsDeclaring node whole others others_keep self.new.declared (map seen_row self.new.names.items) words later told
-            × (length self.new.declared ≡ length self.old.declared + 1)) result }
-    {
-        self.declare(b"ok", output.start, Kind::OfTruth, false)
-    }
-
     // Declares the locals, after the inputs and the output.
     fn locals(&mut self, alloc: Global, locals: &[PlacedLocal<'a>]) -> Result<Vec<Local>, ObsFault>
         ensures { (node : PlainNode) (whole : Option ℕ) (others : List Token) (others_keep : List Bool)
@@ -109,25 +85,37 @@ impl<'a> Scope<'a> {
         Ok(all)
     }
 
-    // All that is in the node, whose own name is declared.
-    fn contents(&mut self, alloc: Global, placed: &PlacedNode<'a>) -> Result<Contents, ObsFault>
+    // Declares all names of a node, of which its own is declared: the inputs, the output and the locals.
+    fn declare_all(
+        &mut self,
+        alloc: Global,
+        placed: &PlacedNode<'a>,
+    ) -> Result<(Vec<Text>, Vec<Local>), ObsFault>
+        requires declared { self.old.declared ≡ (seen_node placed.now).name.bytes ∷ [] }
+        requires names { self.old.names.items ≡ [] }
+        ensures { Leads (first_fault_of (seen_node placed.now))
+            (λ made. AreDeclared (seen_node placed.now) made.0.items made.1.items self.new.declared (map seen_row self.new.names.items)) result }
+    {
+        let inputs = self.inputs(alloc, &placed.inputs)?;
+        self.declare(b"ok", placed.output.start, Kind::OfTruth, false)?;
+        let locals = self.locals(alloc, &placed.locals)?;
+        Ok((inputs, locals))
+    }
+
+    // The whole node, of which its own name is declared.
+    fn node(&mut self, alloc: Global, placed: &PlacedNode<'a>) -> Result<Node, ObsFault>
         requires words { AreWords (seen_node placed.now) }
         requires declared { self.old.declared ≡ (seen_node placed.now).name.bytes ∷ [] }
         requires names { self.old.names.items ≡ [] }
-        ensures { Leads (first_fault_of (seen_node placed.now)) (AreContentsOf (seen_node placed.now)) result }
+        ensures { Leads (first_fault_of (seen_node placed.now)) (λ node. node ≡ node_of (seen_node placed.now)) result }
     {
-        let inputs = self.inputs(alloc, &placed.inputs)?;
-        self.output(&placed.output)?;
-        let locals = self.locals(alloc, &placed.locals)?;
+        let name = Text::copy_of(alloc, placed.name.bytes)?;
+        let declared = self.declare_all(alloc, placed)?;
         let equations = self.equations(alloc, &placed.equations)?;
         if !self.has_all_equations() {
             return Err(broken(&placed.tel));
         }
-        Ok(Contents {
-            inputs,
-            locals,
-            equations,
-        })
+        Ok(Node::new(name, declared.0, declared.1, equations))
     }
 }
 
@@ -138,14 +126,8 @@ pub(crate) fn named(alloc: Global, placed: &PlacedNode<'_>) -> Result<Node, ObsF
     ensures fault { IfErr result (λ fault. fault ≢ Memory
         → (at : ℕ) × (fault ≡ Names at) × IsNamesFault (seen_node placed.now) at) }
 {
-    let name = Text::copy_of(alloc, placed.name.bytes)?;
     let mut scope = Scope::of_node(alloc, &placed.name)?;
-    let contents = scope.contents(alloc, placed);
+    let node = scope.node(alloc, placed);
     drop(scope);
-    let Contents {
-        inputs,
-        locals,
-        equations,
-    } = contents?;
-    Ok(Node::new(name, inputs, locals, equations))
+    node
 }

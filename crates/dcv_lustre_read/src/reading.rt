@@ -27,20 +27,22 @@ pub fn read(alloc: Global, bytes: &[u8]) -> Result<Node, ObsFault>
 {
     texts_are_nodes_or_at_fault();
     let placed = placed_node(alloc, bytes)?;
-    let node = named(alloc, &placed)?;
+    let read = named(alloc, &placed);
+    drop(placed);
+    let node = read?;
     // for the prover: what is true of every node.
     node.keeps_the_rules();
     Ok(node)
 }
 
 // The node that stands in a text.
-pub(crate) fn placed_node<'a>(alloc: Global, text: &'a [u8]) -> Result<PlacedNode<'a>, ObsFault>
+fn placed_node<'a>(alloc: Global, text: &'a [u8]) -> Result<Box<PlacedNode<'a>>, ObsFault>
     requires { length text.now < 2 ^ 32 }
-    ensures spelled { IfOk result (λ placed. Spells text.now (seen_node placed)) }
+    ensures spelled { IfOk result (λ placed. Spells text.now (seen_node placed.value)) }
     ensures fault { IfErr result (λ fault. fault ≢ Memory → (at : ℕ) × (fault ≡ Syntax at) × IsSyntaxFault lexicon language text.now at) }
 {
     match translate(alloc, &NodeTranslation { alloc }, text)? {
-        Part::Node(placed) => Ok(Box::into_inner(placed)),
+        Part::Node(placed) => Ok(placed),
         _ => unreachable!(),
     }
 }

@@ -8,6 +8,7 @@ ghost use Rattle.dcv_lustre_read.specs.Symbols.{seen_part, IsMeant};
 use crate::accessors;
 use crate::parts::{Made, Part, Parts, Words};
 use crate::placed::{PlacedEquation, PlacedLocal, PlacedTest};
+use dcv_translation::list_with_first;
 use std::alloc::Global;
 
 // more_inputs = {";" input}
@@ -19,9 +20,7 @@ pub(crate) fn more_inputs<'a>(alloc: Global, parts: &mut Parts<'a>) -> Made<'a>
         return Ok(Part::Tokens(Vec::new(alloc)));
     }
     let input = accessors::token(parts);
-    let mut inputs = accessors::tokens(parts);
-    inputs.push(input)?;
-    Ok(Part::Tokens(inputs))
+    list_with_first!(Tokens, input, accessors::tokens(parts))
 }
 
 // input = name ":" "bool"
@@ -51,11 +50,7 @@ pub(crate) fn variables<'a>(alloc: Global, parts: &mut Parts<'a>) -> Made<'a>
         return Ok(Part::Locals(Vec::new(alloc)));
     }
     match accessors::words(parts) {
-        Words::Local(local) => {
-            let mut locals = accessors::locals(parts);
-            locals.push(local)?;
-            Ok(Part::Locals(locals))
-        }
+        Words::Local(local) => list_with_first!(Locals, local, accessors::locals(parts)),
         _ => unreachable!(),
     }
 }
@@ -67,11 +62,7 @@ pub(crate) fn locals<'a>(alloc: Global, parts: &mut Parts<'a>) -> Made<'a>
 {
     match accessors::words_or_end(parts) {
         None => Ok(Part::Locals(Vec::new(alloc))),
-        Some(Words::Local(local)) => {
-            let mut locals = accessors::locals(parts);
-            locals.push(local)?;
-            Ok(Part::Locals(locals))
-        }
+        Some(Words::Local(local)) => list_with_first!(Locals, local, accessors::locals(parts)),
         _ => unreachable!(),
     }
 }
@@ -103,9 +94,7 @@ pub(crate) fn equations<'a>(alloc: Global, parts: &mut Parts<'a>) -> Made<'a>
     match parts.next() {
         None => Ok(Part::Equations(Vec::new(alloc))),
         Some(Part::Equation(equation)) => {
-            let mut equations = accessors::equations(parts);
-            equations.push(equation)?;
-            Ok(Part::Equations(equations))
+            list_with_first!(Equations, equation, accessors::equations(parts))
         }
         _ => unreachable!(),
     }
@@ -180,11 +169,7 @@ pub(crate) fn more_tests<'a>(alloc: Global, parts: &mut Parts<'a>) -> Made<'a>
         return Ok(Part::Tests(Vec::new(alloc)));
     }
     match accessors::words(parts) {
-        Words::Test(test) => {
-            let mut tests = accessors::tests(parts);
-            tests.push(test)?;
-            Ok(Part::Tests(tests))
-        }
+        Words::Test(test) => list_with_first!(Tests, test, accessors::tests(parts)),
         _ => unreachable!(),
     }
 }

@@ -2,3 +2,4 @@ pub mod Running
 pub mod Within
 pub mod Reversed
 pub mod Rows
+pub mod Told

@@ -64,10 +64,36 @@ impl<P: Drop> Body<P> {
 
 /// A list that stands from its last element to its first, with one more before the first.
 pub fn with_first<T: Drop>(first: T, mut others: Vec<T>) -> Result<Vec<T>, AllocError>
-    ensures { IfOk result (λ all. reverse all.items ≡ first ∷ reverse others.items) }
+    ensures items { IfOk result (λ all. all.items ≡ others.items ++ first ∷ []) }
+    ensures forwards { IfOk result (λ all. reverse all.items ≡ first ∷ reverse others.items) }
 {
     others.push(first)?;
     Ok(others)
+}
+
+/// A copy of what is in the next part of a body, by patterns behind a reference. It owns nothing, so the part is forgotten and not dropped.
+#[macro_export]
+macro_rules! copy_of_next {
+    ($parts:expr, $($pattern:pat => $copy:expr),+) => {{
+        let next = $parts.next();
+        let copy = match &next {
+            $($pattern => $copy,)+
+            _ => unreachable!(),
+        };
+        forget(next);
+        copy
+    }};
+}
+
+/// The part of a list, of this kind of `Part`, with one more before its first. With `?` the list would be moved once more.
+#[macro_export]
+macro_rules! list_with_first {
+    ($kind:ident, $first:expr, $others:expr) => {
+        match $crate::with_first($first, $others) {
+            Ok(all) => Ok(Part::$kind(all)),
+            Err(error) => Err(error),
+        }
+    };
 }
 
 /// The next part of a body, which is of this kind of `Part`.

@@ -15,5 +15,4 @@ returns-clause-spelled c =
     let (placed, is, spelled) = unit_spelled c.args.text.now (seen_part c.in_ok-placed.field-0) c.in_ok-placed.ensures.part in
     let both : AUnit (seen_unit c.in-Unit.placed.value) ≡ AUnit placed = sym (ap seen_part c.in-Unit.is) ∙ is in
     let same : seen_unit c.in-Unit.placed.value ≡ placed = cc in
-    let whole : seen_unit c.into_inner.result ≡ placed = ap seen_unit c.into_inner.ensures ∙ same in
-    subst (Spells c.args.text.now) (sym whole) spelled
+    subst (Spells c.args.text.now) (sym same) spelled

@@ -1,12 +1,20 @@
-use Rattle.std.proofs.Common.{sym}
+use Rattle.std.proofs.Common.{sym, ap, subst, ◌∙◌}
+use Rattle.dcv_c.specs.Placed.{unit_of}
+use Rattle.dcv_c.specs.Actions.{Spells}
+use Rattle.dcv_c_read.specs.declared.placed.PlacedUnit.{PlacedUnit}
 use Rattle.dcv_c_read.specs.Seen.{seen_unit}
 use Rattle.dcv_c_read.proofs.reading.read.Goals as goal
 
+pub named-read-requires : goal.named-read-requires
+named-read-requires c = record {
+  spelled = (c.args.bytes.now, subst (λ (placed : PlacedUnit). Spells c.args.bytes.now (seen_unit placed)) (sym c.deref.ensures) c.in_ok-placed.ensures.spelled);
+}
+
 pub returns-clause-read : goal.returns-clause-read
 returns-clause-read c = record {
-  placed = seen_unit c.in_ok-placed.placed;
+  placed = seen_unit c.in_ok-placed.placed.value;
   spelled = c.in_ok-placed.ensures.spelled;
-  is = sym c.in_ok-unit.ensures.named;
+  is = ap (λ (placed : PlacedUnit). unit_of (seen_unit placed)) (sym c.deref.ensures) ∙ sym c.in_ok-unit.ensures.named;
   well_named = c.keeps_the_rules.ensures.names;
 }
 

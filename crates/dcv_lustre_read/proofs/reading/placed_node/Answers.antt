@@ -15,5 +15,4 @@ returns-clause-spelled c =
     let (placed, is, spelled) = node_spelled c.args.text.now (seen_part c.in_ok-placed.field-0) c.in_ok-placed.ensures.part in
     let both : ANode (seen_node c.in-Node.placed.value) ≡ ANode placed = sym (ap seen_part c.in-Node.is) ∙ is in
     let same : seen_node c.in-Node.placed.value ≡ placed = cc in
-    let whole : seen_node c.into_inner.result ≡ placed = ap seen_node c.into_inner.ensures ∙ same in
-    subst (Spells c.args.text.now) (sym whole) spelled
+    subst (Spells c.args.text.now) (sym same) spelled

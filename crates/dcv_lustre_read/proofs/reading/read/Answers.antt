@@ -1,12 +1,20 @@
-use Rattle.std.proofs.Common.{sym}
+use Rattle.std.proofs.Common.{sym, ap, subst, ◌∙◌}
+use Rattle.dcv_lustre.specs.Placed.{node_of}
+use Rattle.dcv_lustre.specs.Actions.{Spells}
+use Rattle.dcv_lustre_read.specs.declared.placed.PlacedNode.{PlacedNode}
 use Rattle.dcv_lustre_read.specs.Seen.{seen_node}
 use Rattle.dcv_lustre_read.proofs.reading.read.Goals as goal
 
+pub named-read-requires : goal.named-read-requires
+named-read-requires c = record {
+  spelled = (c.args.bytes.now, subst (λ (placed : PlacedNode). Spells c.args.bytes.now (seen_node placed)) (sym c.deref.ensures) c.in_ok-placed.ensures.spelled);
+}
+
 pub returns-clause-read : goal.returns-clause-read
 returns-clause-read c = record {
-  placed = seen_node c.in_ok-placed.placed;
+  placed = seen_node c.in_ok-placed.placed.value;
   spelled = c.in_ok-placed.ensures.spelled;
-  is = sym c.in_ok-node.ensures.named;
+  is = ap (λ (placed : PlacedNode). node_of (seen_node placed)) (sym c.deref.ensures) ∙ sym c.in_ok-node.ensures.named;
   well_named = c.keeps_the_rules.ensures.names;
 }
 
