@@ -18,7 +18,7 @@ use Rattle.clap.proofs.WalkLemmas.{find-map}
 use Rattle.dcv_command.specs.Laws.{ListedWordsAreTaken}
 use Rattle.dcv_command.specs.Listed.{AreGiven, AskFor, CanBeGiven, IsChosen, Values, are_distinct, asked_with, if_operand, operand_words, option_words, word_of}
 use Rattle.dcv_command.proofs.Arguments.{AreLookedUp, IsLookedUp, Numbered, all_looked_up, built_rule, built_rules, built_shape, help, is_operand, is_required, is_small, next_place, numbered, of_numbered, operands, parser, to_numbered}
-use Rattle.dcv_command.proofs.Commands.{IsCommand, each_command}
+use Rattle.dcv_command.proofs.Commands.{IsCommand, is_among}
 use Rattle.dcv_command.proofs.Lists.{all_both, any_is_found, if_found, none_passes}
 use Rattle.dcv_command.proofs.NumberTexts.{HasNoDash, decimal_is_one, has_no_dash}
 use Rattle.dcv_command.proofs.Parses.{defaults_agree, no_kind}
@@ -325,5 +325,4 @@ module _ (command : Command) (is : IsCommand command) (values : Values) (given :
       ∙ values_asked values arguments command.asks at_last each_read)
 
 pub listed_words_are_taken : ListedWordsAreTaken
-listed_words_are_taken command values given among are =
-    listed command (subst IsCommand among.2 (All-get_or IsCommand commands among.0 command among.1 each_command)) values given are
+listed_words_are_taken command values given among are = listed command (is_among command among) values given are

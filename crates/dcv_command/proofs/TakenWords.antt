@@ -1,10 +1,10 @@
 -- Words in which no fault is found are a command's name and words of the command, and these ask for something.
-use Rattle.dcv_command.proofs.Common.{◌≡◌, ℕ, suc, Bool, true, false, List, [], ◌∷◌, Option, None, Some, refl, sym, subst, codes, ap, ◌∙◌}
+use Rattle.dcv_command.proofs.Common.{◌≡◌, App, ℕ, suc, Bool, true, false, List, [], ◌∷◌, Option, None, Some, refl, sym, subst, codes, ap, ◌∙◌}
 use Rattle.dcv_command.proofs.Common.{find, map, length, ◌||◌, ◌&&◌, if◌then◌else◌, option_and_then, option_map, bytes_eq, ◌==◌, AllByRecursion, list_all, true≢false, both, arith}
 use Rattle.dcv_command.proofs.Common.{bytes_eq-Decides, Text, Row, Rule, Held, idle, fault_of, takes, accepts, has_row, is_false}
 use Rattle.dcv_command.proofs.Common.{short_of, long_of, finished, settled, nothing_held, walk, walk_from, rows_after, subcommand_met}
 use Rattle.dcv_command.proofs.Common.{after_flag, long_or_other, subcommand_or_other, trailing, check_fault, level_fault, settle_fault, step_passes, other_passes, turn_passes}
-use Rattle.dcv_command.proofs.Common.{program, request_of_subcommand, asked_in, value_of, Command, commands, Argument, Asks, Form, WithDefault, Value}
+use Rattle.dcv_command.proofs.Common.{program, request_of_subcommand, asked_in, asked_of, value_of, Command, commands, Argument, Asks, Form, WithDefault, Value}
 use Rattle.std.proofs.Common.{zero}
 use Rattle.std.specs.Prelude.{IfSome, IsSome, nat_le, slice_get, not}
 use Rattle.std.specs.Option.{option_or}
@@ -15,18 +15,18 @@ use Rattle.std.proofs.lemmas.List.Folds.{find-append}
 use Rattle.std.proofs.lemmas.Bool.{and_left, leb-true}
 use Rattle.clap.specs.Words.{built, subcommand_of}
 use Rattle.clap.specs.Walk.{answers_to, bundle_met, is_empty, plain, used}
-use Rattle.clap.specs.Simple.{built_leaf, help_shape, label_of}
+use Rattle.clap.specs.Simple.{built_leaf, help_shape, label_of, names_of}
 use Rattle.clap.specs.Faults.{defaults_fault, walk_fault}
 use Rattle.clap.specs.Takes.{entered_passes, flag_word_passes, flags_pass, long_passes, short_passes, use_passes, walk_passes}
 use Rattle.clap.specs.declared.parser.matches.ValueSource.TheVariants.{CommandLine}
 use Rattle.clap.proofs.OnLiterals.{clap_on_literals}
 use Rattle.clap.proofs.WalkLemmas.{find-map}
 use Rattle.dcv_command.specs.Request.{IsTaken, Request, request_of}
-use Rattle.dcv_command.specs.Laws.{TakenWordsAsk}
+use Rattle.dcv_command.specs.Laws.{AreACommands, TakenWordsAreACommands, TakenWordsAsk}
 use Rattle.dcv_command.proofs.Arguments.{AreLookedUp, IsLookedUp, Numbered, all_looked_up, built_rule, built_rules, built_shape, defaults_of, help, numbered, of_numbered, parser}
-use Rattle.dcv_command.proofs.Commands.{IsCommand, asked_below, built_command, each_command, faults_below, found_below, names, top}
+use Rattle.dcv_command.proofs.Commands.{IsCommand, asked_below, built_command, each_command, fault_alone, faults_below, found_below, is_among, names, top}
 use Rattle.dcv_command.proofs.Lists.{if_found}
-use Rattle.dcv_command.proofs.Parses.{Keeps, is_none, last_is_empty, level_keeps, program_agrees, use_same}
+use Rattle.dcv_command.proofs.Parses.{Keeps, is_none, no_kind, last_is_empty, level_keeps, program_agrees, use_same}
 use Rattle.dcv_command.proofs.Rows.{IsRead, IsReadable, OfDefault, is_read, readable, used_behind}
 
 -- ---- a first word that is no command's name is refused
@@ -201,6 +201,25 @@ taken_words_ask words taken =
     ∙ asked_below begun.command begun.is begun.rest (rows_after (built_command begun.command).rules [] begun.rest)))
     (words_ask begun.command.arguments (all_looked_up begun.command.arguments begun.is.sound) begun.command.name begun.command.asks begun.rest
     (sym (faults_below begun.command begun.is begun.rest) ∙ ap (fault_of program) (sym begun.same) ∙ taken)))
+
+pub taken_words_are_a_commands : TakenWordsAreACommands
+taken_words_are_a_commands words = ((taken_passes words, λ passes. no_kind (fault_of program words) (program_agrees words ∙ passes)), (to, from))
+  where
+    to : IsTaken words → AreACommands words
+    to taken =
+        let begun = begins words (taken_passes words taken) in
+        record {
+          command = begun.command;
+          among = begun.is.among;
+          rest = begun.rest;
+          begin = begun.same;
+          taken = sym (fault_alone begun.command begun.is begun.rest) ∙ ap (fault_of program) (sym begun.same) ∙ taken;
+          asked = ap request_of begun.same ∙ ap request_of_subcommand (found_below begun.command begun.is begun.rest) ∙ asked_below begun.command begun.is begun.rest _
+              ∙ ap (λ (app : App). asked_of begun.command (rows_after app.top.rules (names_of app) begun.rest)) (sym begun.is.alone_is);
+        }
+
+    from : AreACommands words → IsTaken words
+    from are = ap (fault_of program) are.begin ∙ fault_alone are.command (is_among are.command are.among) are.rest ∙ are.taken
 
 it_is_some : (asked : Option Request) → IsSome asked → None ≡ asked → ⊥
 it_is_some None some none = true≢false (sym some)

@@ -92,14 +92,14 @@ pub(crate) struct Argument<'a> {
 pub(crate) enum Form<'a> {
     Operand,
     Required,
-    WithDefault { text: &'a str },
+    WithDefault(&'a str),
 }
 
-/// What is given for an argument.
+/// What is given for an argument: the name of a file, or a number from the least to the most.
 #[derive(Clone, Copy)]
 pub(crate) enum Value {
     FileName,
-    Number { least: u32, most: u32 },
+    Number(u32, u32),
 }
 
 // An operand, the name of a file.
@@ -118,11 +118,8 @@ macro_rules! file_operand {
 // The limit on the states of a step.
 const STATES: Argument<'static> = Argument {
     id: "states",
-    form: Form::WithDefault { text: "30000" },
-    value: Value::Number {
-        least: 1,
-        most: MOST_STATES,
-    },
+    form: Form::WithDefault("30000"),
+    value: Value::Number(1, MOST_STATES),
     value_name: "N",
     help: "The most states that a step may have, from 1 to 32000",
 };
@@ -130,11 +127,8 @@ const STATES: Argument<'static> = Argument {
 // The limit on the diagram nodes of a step.
 const NODES: Argument<'static> = Argument {
     id: "nodes",
-    form: Form::WithDefault { text: "1000000" },
-    value: Value::Number {
-        least: 1,
-        most: MOST_NODES,
-    },
+    form: Form::WithDefault("1000000"),
+    value: Value::Number(1, MOST_NODES),
     value_name: "N",
     help: "The most diagram nodes that a step may have, from 1 to 1000000",
 };
@@ -204,10 +198,7 @@ nodes it had, and version 1 does not",
             Argument {
                 id: "to",
                 form: Form::Required,
-                value: Value::Number {
-                    least: 1,
-                    most: MOST_VERSION,
-                },
+                value: Value::Number(1, MOST_VERSION),
                 value_name: "N",
                 help: "The version, 1 or 2",
             },
@@ -242,10 +233,7 @@ inputs that beat every controller",
             Argument {
                 id: "inputs",
                 form: Form::Required,
-                value: Value::Number {
-                    least: 0,
-                    most: MOST_INPUTS,
-                },
+                value: Value::Number(0, MOST_INPUTS),
                 value_name: "N",
                 help: "How many of the declared variables, from the first on, are inputs, from 0 to 16; the others, at most 8, are outputs",
             },
@@ -271,20 +259,14 @@ states and 1000000 nodes, and how many states the minimal automata of the others
             Argument {
                 id: "seed",
                 form: Form::Operand,
-                value: Value::Number {
-                    least: 0,
-                    most: MOST_SEED,
-                },
+                value: Value::Number(0, MOST_SEED),
                 value_name: "SEED",
                 help: "The number that the drawing begins from, up to 2147483647",
             },
             Argument {
                 id: "count",
                 form: Form::Operand,
-                value: Value::Number {
-                    least: 1,
-                    most: MOST_COUNT,
-                },
+                value: Value::Number(1, MOST_COUNT),
                 value_name: "COUNT",
                 help: "How many formulas are drawn, from 1 to 1000",
             },
@@ -311,21 +293,14 @@ pub(crate) fn program<'a>(alloc: Global) -> Result<Command<'a>, AllocError>
 fn bare_program<'a>(alloc: Global) -> Result<Command<'a>, AllocError>
     ensures { IfOk result (λ command. app_of command ≡ bare_app) }
 {
+    let named = Command::new(alloc, "dcvalid").bin_name("dcvalid")?;
     Ok(
-        named(alloc)?
+        named
             .about(ABOUT)
             .after_help(EXAMPLE_AND_STATUS)
             .no_binary_name(true)
             .subcommand_required(true),
     )
-}
-
-// A command with no words yet, which usage calls by its name.
-fn named<'a>(alloc: Global) -> Result<Command<'a>, AllocError>
-    ensures app { IfOk result (λ command. app_of command ≡ new_app (codes "dcvalid")) }
-    ensures local { IfOk result (λ command. (fields_of command).has_globals ≡ false) }
-{
-    Command::new(alloc, "dcvalid").bin_name("dcvalid")
 }
 
 // The command with these subcommands more.
@@ -390,7 +365,7 @@ fn with_value<'a>(arg: Arg<'a>, value: Value) -> Arg<'a>
 {
     match value {
         Value::FileName => arg,
-        Value::Number { least, most } => {
+        Value::Number(least, most) => {
             arg.value_parser(ValueParser::unsigned(u64::from(least), u64::from(most)))
         }
     }
@@ -404,6 +379,6 @@ fn with_form<'a>(arg: Arg<'a>, id: &'a str, form: Form<'a>) -> Arg<'a>
     match form {
         Form::Operand => arg.required(true),
         Form::Required => arg.long(id).required(true),
-        Form::WithDefault { text } => arg.long(id).default_value(text),
+        Form::WithDefault(text) => arg.long(id).default_value(text),
     }
 }
