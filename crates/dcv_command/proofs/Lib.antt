@@ -5,12 +5,8 @@ pub mod Arguments
 pub mod Rows
 pub mod Commands
 pub mod TakenWords
-pub mod Faults
 pub mod NumberTexts
-pub mod Runs
 pub mod Walks
 pub mod Listed
-pub mod Numbers
-pub mod Requests
 pub mod Built
 pub mod Ranges

@@ -5,7 +5,7 @@ use Rattle.dcv_command.proofs.Common.{AllByRecursion, list_all, list_any, bytes_
 use Rattle.dcv_command.proofs.Common.{Shape, Text, check_fault, check_kinds, or_else, default_passes, is_given, accepts, explicit_source}
 use Rattle.dcv_command.proofs.Common.{Held, Walk, idle, nothing_held, settled, walk_from, with_default, is_false, both, append-nil}
 use Rattle.dcv_command.proofs.Common.{IsOption, has_name, asked_in, asked_of, Argument, Asks, Command, Form, Operand, Required, WithDefault, Of, Value, FileName}
-use Rattle.dcv_command.proofs.Common.{Number, commands, value_of}
+use Rattle.dcv_command.proofs.Common.{Number, value_of}
 use Rattle.std.specs.Prelude.{Contains, IfSome}
 use Rattle.std.specs.Option.{option_or}
 use Rattle.std.proofs.ByRecursion.{All-append, All-get_or, All-map, All-weaker, all_kept_by, kept_by_passes}
@@ -23,9 +23,8 @@ use Rattle.dcv_command.proofs.Lists.{all_both, any_is_found, if_found, none_pass
 use Rattle.dcv_command.proofs.NumberTexts.{HasNoDash, decimal_is_one, has_no_dash}
 use Rattle.dcv_command.proofs.Parses.{defaults_agree, no_kind}
 use Rattle.dcv_command.proofs.Rows.{IsRead, IsReadable, OfDefault, default_of, found_after, is_read, readable, row_named}
-use Rattle.dcv_command.proofs.Runs.{Runs, at_end, ask_for, going, more}
 use Rattle.dcv_command.proofs.TakenWords.{default_is_accepted}
-use Rattle.dcv_command.proofs.Walks.{Holds, flag_goes, given_by, has_given_row, holding, holds_one, nothing_holds, operand_goes, value_goes}
+use Rattle.dcv_command.proofs.Walks.{Holds, Runs, ask_for, at_end, flag_goes, given_by, going, has_given_row, holding, holds_one, more, nothing_holds, operand_goes, value_goes}
 
 -- ---- lists of arguments with different names
 
@@ -165,7 +164,7 @@ none_lacks false given is = refl
 
 values_asked : (values : Values) (left : List Argument) (asks : Asks left) (rows : List Row) → AllByRecursion (IsRead (Means values) rows) left
     → asked_in left asks rows ≡ Some (asked_with left asks values)
-values_asked values [] request rows all = refl
+values_asked values [] request rows each = refl
 values_asked values (one ∷ rest) asks rows (is, others) =
     ap (option_and_then (λ given. asked_in rest (asks given) rows)) (is.value ∙ ap Some is.is.1) ∙ values_asked values rest (asks (values one)) rows others
 

@@ -127,11 +127,17 @@ module _ (shape : Shape) (Kept : List Row → Type 0) (each : AllByRecursion (Ke
   abbrev again : Bool
   again = shape.args_override_self
 
+  abbrev rules : List Rule
+  rules = shape.rules
+
+  abbrev Leads : Held → Kinds → Bool → Held → Type 0
+  Leads held kinds passes there = Agrees (Kept held.rows) kinds passes (Kept there.rows)
+
   abbrev FoundKeeps : (Rule → Bool) → Option Rule → Type 0
   FoundKeeps test found = IfSome found (λ rule. Keeps again Kept rule × (test rule ≡ true))
 
-  found_keeps : (test : Rule → Bool) → FoundKeeps test (find test shape.rules)
-  found_keeps test = if_found (Keeps again Kept) test shape.rules each
+  found_keeps : (test : Rule → Bool) → FoundKeeps test (find test rules)
+  found_keeps test = if_found (Keeps again Kept) test rules each
 
   use_agrees : (rule : Rule) → Keeps again Kept rule → (values : List Text) (rows : List Row)
       → Agrees (Kept rows) (use_fault again rule values rows) (use_passes again rule values rows) (Kept (used rule values rows))
@@ -144,23 +150,22 @@ module _ (shape : Shape) (Kept : List Row → Type 0) (each : AllByRecursion (Ke
   by_id_agrees (Some rule) test keeps values rows = use_agrees rule keeps.0 values rows
 
   pending_agrees : (pending : Option (Text × List Text)) (rows : List Row) (skip : ℕ)
-      → Agrees (Kept rows) (settle_fault shape.rules again (record { rows = rows; pending = pending; skip = skip }))
-      (settle_passes shape.rules again (record { rows = rows; pending = pending; skip = skip })) (Kept (settled_rows shape.rules pending rows))
+      → Agrees (Kept rows) (settle_fault rules again (record { rows = rows; pending = pending; skip = skip }))
+      (settle_passes rules again (record { rows = rows; pending = pending; skip = skip })) (Kept (settled_rows rules pending rows))
   pending_agrees None rows skip = nothing
-  pending_agrees (Some p) rows skip = by_id_agrees (arg_by_id shape.rules p.0) _ (found_keeps (λ rule. bytes_eq rule.id p.0)) p.1 rows
+  pending_agrees (Some p) rows skip = by_id_agrees (arg_by_id rules p.0) _ (found_keeps (λ rule. bytes_eq rule.id p.0)) p.1 rows
 
   settled_agrees : (held : Held)
-      → Agrees (Kept held.rows) (settle_fault shape.rules again held) (settle_passes shape.rules again held) (Kept (settled shape.rules held).rows)
+      → Leads held (settle_fault rules again held) (settle_passes rules again held) (settled rules held)
   settled_agrees held = pending_agrees held.pending held.rows held.skip
 
   reacted_agrees : (rule : Rule) → Keeps again Kept rule → (values : List Text) (held : Held)
-      → Agrees (Kept held.rows) (react_fault shape.rules again rule values held) (react_passes shape.rules again rule values held)
-      (Kept (reacted shape.rules rule values held).rows)
-  reacted_agrees rule keeps values held = in_turn (settled_agrees held) (use_agrees rule keeps values (settled shape.rules held).rows)
+      → Leads held (react_fault rules again rule values held) (react_passes rules again rule values held) (reacted rules rule values held)
+  reacted_agrees rule keeps values held = in_turn (settled_agrees held) (use_agrees rule keeps values (settled rules held).rows)
 
   option_agrees : (rule : Rule) → Keeps again Kept rule → (attached : Option Text) (held : Held)
-      → Agrees (Kept held.rows) (option_fault shape.rules again rule attached held) (option_passes shape.rules again rule attached held)
-      (Kept (option_met shape.rules rule attached held).0.rows)
+      → Leads held (option_fault rules again rule attached held) (option_passes rules again rule attached held)
+      (option_met rules rule attached held).0
   option_agrees rule keeps (Some text) held = reacted_agrees rule keeps (text ∷ []) held
   option_agrees rule keeps None held = settled_agrees held
 
@@ -168,8 +173,7 @@ module _ (shape : Shape) (Kept : List Row → Type 0) (each : AllByRecursion (Ke
 
   long_agrees : (found : Option Rule) (test : Rule → Bool) → FoundKeeps test found → (is_taking : Bool) → option_map_or takes_values found false ≡ is_taking
       → (attached : Option Text) (held : Held)
-      → Agrees (Kept held.rows) (long_fault shape.rules again found attached held) (long_passes shape.rules again found attached held)
-      (Kept (long_met shape.rules found attached held).0.rows)
+      → Leads held (long_fault rules again found attached held) (long_passes rules again found attached held) (long_met rules found attached held).0
   long_agrees None test keeps is_taking is attached held = refused
   long_agrees (Some rule) test keeps true is attached held = rw is (option_agrees rule keeps.0 attached held)
   long_agrees (Some rule) test keeps false is None held = rw is (reacted_agrees rule keeps.0 [] held)
@@ -177,22 +181,22 @@ module _ (shape : Shape) (Kept : List Row → Type 0) (each : AllByRecursion (Ke
 
   short_agrees : (found : Option Rule) (test : Rule → Bool) → FoundKeeps test found → (is_taking : Bool) → option_map_or takes_values found false ≡ is_taking
       → (rest : Text) (held : Held) (faults : Held → Kinds) (passes : Held → Bool) (go_on : Held → Held × Outcome)
-      → ((there : Held) → Agrees (Kept there.rows) (faults there) (passes there) (Kept (go_on there).0.rows))
-      → Agrees (Kept held.rows) (short_fault shape.rules again found rest held faults) (short_passes shape.rules again found rest held passes)
-      (Kept (short_met shape.rules found rest held go_on).0.rows)
+      → ((there : Held) → Leads there (faults there) (passes there) (go_on there).0)
+      → Leads held (short_fault rules again found rest held faults) (short_passes rules again found rest held passes)
+      (short_met rules found rest held go_on).0
   short_agrees None test keeps is_taking is rest held faults passes go_on goes = refused
   short_agrees (Some rule) test keeps true is rest held faults passes go_on goes = rw is (option_agrees rule keeps.0 (attached_value rest) held)
   short_agrees (Some rule) test keeps false is rest held faults passes go_on goes =
-      rw is (in_turn (reacted_agrees rule keeps.0 [] held) (goes (reacted shape.rules rule [] held)))
+      rw is (in_turn (reacted_agrees rule keeps.0 [] held) (goes (reacted rules rule [] held)))
 
   flags_agree : (most : ℕ) (flags : Text) (character : Option ℕ) → slice_get (chars flags) 0 ≡ character → (skip : ℕ) (so_far : Outcome) (held : Held)
-      → Agrees (Kept held.rows) (flags_fault shape.rules again most flags skip held) (flags_pass shape.rules again most flags skip held)
-      (Kept (bundle_met shape.rules most flags skip so_far held).0.rows)
+      → Leads held (flags_fault rules again most flags skip held) (flags_pass rules again most flags skip held)
+      (bundle_met rules most flags skip so_far held).0
   unfolding bundle_met flags_fault flags_pass
   flags_agree zero flags character is skip so_far held = nothing
   flags_agree (suc most) flags None is skip so_far held = rw is nothing
   flags_agree (suc most) flags (Some x) is zero so_far held =
-      rw is (short_agrees (arg_by_short shape.rules x) _ (found_keeps _) _ refl _ held _ _ _ (λ there. flags_agree most _ _ refl 0 done there))
+      rw is (short_agrees (arg_by_short rules x) _ (found_keeps _) _ refl _ held _ _ _ (λ there. flags_agree most _ _ refl 0 done there))
   flags_agree (suc most) flags (Some x) is (suc skip) so_far held = rw is (flags_agree most _ _ refl skip so_far held)
 
   -- ---- words
@@ -201,74 +205,72 @@ module _ (shape : Shape) (Kept : List Row → Type 0) (each : AllByRecursion (Ke
   option_word_keeps None id word held kept = kept
   option_word_keeps (Some rule) id word held kept = kept
 
-  plain_keeps : (waiting : Waiting) (word : Text) (held : Held) → Kept held.rows → Kept (plain_word shape.rules waiting word held).0.rows
-  plain_keeps (option id) word held kept = option_word_keeps (arg_by_id shape.rules id) id word held kept
+  plain_keeps : (waiting : Waiting) (word : Text) (held : Held) → Kept held.rows → Kept (plain_word rules waiting word held).0.rows
+  plain_keeps (option id) word held kept = option_word_keeps (arg_by_id rules id) id word held kept
   plain_keeps _ word held kept = kept
 
   after_flag_keeps : (waiting : Waiting) (word : Text) (held : Held) (outcome : Outcome) → Kept held.rows
-      → Kept (after_flag shape.rules waiting word held outcome).0.rows
+      → Kept (after_flag rules waiting word held outcome).0.rows
   after_flag_keeps waiting word held done kept = kept
   after_flag_keeps waiting word held (waits id) kept = kept
   after_flag_keeps waiting word held _ kept = plain_keeps waiting word held kept
 
   flag_word_agrees : (waiting : Waiting) (word : Text) (long : Option (Text × Option Text)) (short : Option Text) → short_of word ≡ short → (held : Held)
-      → Agrees (Kept held.rows) (flag_word_fault shape.rules again long word held) (flag_word_passes shape.rules again long word held)
-      (Kept (long_or_other shape.rules waiting word long held).0.rows)
+      → Leads held (flag_word_fault rules again long word held) (flag_word_passes rules again long word held)
+      (long_or_other rules waiting word long held).0
   flag_word_agrees waiting word (Some p) short is held =
-      and_so (long_agrees (arg_by_long shape.rules p.0) _ (found_keeps _) _ refl p.1 held) (after_flag_keeps waiting word _ _)
+      and_so (long_agrees (arg_by_long rules p.0) _ (found_keeps _) _ refl p.1 held) (after_flag_keeps waiting word _ _)
   flag_word_agrees waiting word None (Some flags) is held =
       rw is (and_so (flags_agree _ flags _ refl held.skip plain (record held { skip = 0 })) (after_flag_keeps waiting word _ _))
   flag_word_agrees waiting word None None is held = rw is (and_so nothing (plain_keeps waiting word held))
 
   other_agrees : (met : Option Text) (waiting : Waiting) (position : ℕ) (word : Text) (held : Held)
-      → Agrees (Kept held.rows) (other_fault shape met word held) (other_passes shape met word held)
-      (Kept (subcommand_or_other shape.rules met waiting position word held).0.rows)
+      → Leads held (other_fault shape met word held) (other_passes shape met word held) (subcommand_or_other rules met waiting position word held).0
   other_agrees (Some name) waiting position word held =
       unless (bytes_eq name (codes "help")) shape.disable_help_subcommand kind.DisplayHelp (kind.InvalidSubcommand ∷ [])
   other_agrees None waiting position word held = by (bytes_eq word (45 ∷ 45 ∷ []))
     where
-      by : (dashes : Bool) → Agrees (Kept held.rows) (if dashes then [] else flag_word_fault shape.rules again (long_of word) word held)
-          (dashes || flag_word_passes shape.rules again (long_of word) word held)
-          (Kept (if dashes then (held, trailing position) else long_or_other shape.rules waiting word (long_of word) held).0.rows)
+      by : (dashes : Bool) → Leads held (if dashes then [] else flag_word_fault rules again (long_of word) word held)
+          (dashes || flag_word_passes rules again (long_of word) word held)
+          (if dashes then (held, trailing position) else long_or_other rules waiting word (long_of word) held).0
       by true = nothing
       by false = flag_word_agrees waiting word (long_of word) (short_of word) refl held
 
   word_agrees : (names : Names) (is_trailing : Bool) (waiting : Waiting) (position : ℕ) (word : Text) (held : Held)
-      → Agrees (Kept held.rows) (word_fault shape names is_trailing waiting word held) (word_passes shape names is_trailing waiting word held)
-      (Kept (word_met shape.rules names is_trailing waiting position word held).0.rows)
+      → Leads held (word_fault shape names is_trailing waiting word held) (word_passes shape names is_trailing waiting word held)
+      (word_met rules names is_trailing waiting position word held).0
   word_agrees names true waiting position word held = nothing
   word_agrees names false waiting position word held = other_agrees (subcommand_met names waiting word) waiting position word held
 
   positional_agrees : (found : Option Rule) (word : Text) (w : Walk) (held : Held)
-      → Agrees (Kept held.rows) (option_map_or (λ rule. positional_fault shape.rules again rule held) found (stray_fault shape))
-      (option_map_or (λ rule. positional_passes shape.rules again rule held) found false) (Kept (to_positional shape.rules found word w held).held.rows)
+      → Leads held (option_map_or (λ rule. positional_fault rules again rule held) found (stray_fault shape))
+      (option_map_or (λ rule. positional_passes rules again rule held) found false) (to_positional rules found word w held).held
   positional_agrees None word w held = strays shape.is_leaf
   positional_agrees (Some rule) word w held = by (is_pending rule held.pending && takes_several rule)
     where
-      by : (stays : Bool) → Agrees (Kept held.rows) (if stays then [] else settle_fault shape.rules again held) (stays || settle_passes shape.rules again held)
-          (Kept (if stays then held else settled shape.rules held).rows)
+      by : (stays : Bool) → Leads held (if stays then [] else settle_fault rules again held) (stays || settle_passes rules again held)
+          (if stays then held else settled rules held)
       by true = nothing
       by false = settled_agrees held
 
   step_agrees : (word : Text) (w : Walk) (held : Held) (step : Step)
-      → Agrees (Kept held.rows) (step_fault shape w.position held step) (step_passes shape w.position held step)
-      (Kept (after_step shape.rules word w held step).held.rows)
-  step_agrees word w held value = positional_agrees (arg_by_index shape.rules w.position) word w held
+      → Leads held (step_fault shape w.position held step) (step_passes shape w.position held step) (after_step rules word w held step).held
+  step_agrees word w held value = positional_agrees (arg_by_index rules w.position) word w held
   step_agrees word w held _ = nothing
 
   turn_agrees : (names : Names) (w : Walk) (word : Text) (stopped : Option (Text × List Text)) → w.stopped ≡ stopped
-      → Agrees (Kept w.held.rows) (turn_fault shape names w word) (turn_passes shape names w word) (Kept (walked_from shape.rules names stopped w word).held.rows)
+      → Leads w.held (turn_fault shape names w word) (turn_passes shape names w word) (walked_from rules names stopped w word).held
   turn_agrees names w word (Some stop) is = let ended : is_some w.stopped ≡ true = ap is_some is in rw ended nothing
   turn_agrees names w word None is =
       let going : is_some w.stopped ≡ false = ap is_some is in
-      let met = word_met shape.rules names w.is_trailing w.waiting w.position word w.held in
+      let met = word_met rules names w.is_trailing w.waiting w.position word w.held in
       rw going (in_turn (word_agrees names w.is_trailing w.waiting w.position word w.held) (step_agrees word w met.0 met.1))
 
   walk_agrees : (names : Names) (words : List Text) (w : Walk)
-      → Agrees (Kept w.held.rows) (walk_fault shape names w words) (walk_passes shape names w words) (Kept (fold (walked shape.rules names) w words).held.rows)
+      → Leads w.held (walk_fault shape names w words) (walk_passes shape names w words) (fold (walked rules names) w words).held
   unfolding walk_fault walk_passes walked
   walk_agrees names [] w = nothing
-  walk_agrees names (word ∷ words) w = in_turn (turn_agrees names w word w.stopped refl) (walk_agrees names words (walked shape.rules names w word))
+  walk_agrees names (word ∷ words) w = in_turn (turn_agrees names w word w.stopped refl) (walk_agrees names words (walked rules names w word))
 
 -- ---- after the walk
 

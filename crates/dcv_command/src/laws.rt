@@ -8,6 +8,7 @@ pub fn taken_words_are_a_commands()
 {}
 
 /// Words in which `clap` finds no fault ask for something.
+#[tactic(auto, using(crate::proofs::TakenWords::taken_words_ask))]
 pub fn taken_words_ask()
     ensures { TakenWordsAsk }
 {}

@@ -1,8 +1,23 @@
-use Rattle.dcv_command.proofs.Common.{◌≡◌, ◌∙◌, subst, true, false, [], map, app_of, fault_of, program}
-use Rattle.clap.specs.Words.{FailsBy, HasKind, kind_of}
+-- An error of another kind than memory is one of a fault, and the command is the program's.
+use Rattle.dcv_command.proofs.Common.{◌≡◌, ◌∙◌, subst, refl, true, false, List, [], ◌∷◌, map, App, Kinds, Text, app_of, fault_of, program, subcommand_rows_of}
+use Rattle.std.proofs.Common.{◌≢◌, inl, inr, Result}
+use Rattle.clap.specs.Words.{kind_of, FailsBy, HasKind, HasMatchesOf, is_simple_and_free, subcommand_of}
+use Rattle.clap.specs.declared.parser.matches.ArgMatches.{ArgMatches}
+use Rattle.clap.specs.declared.error.Error.{Error}
 use Rattle.clap.specs.declared.error.kind.ErrorKind.TheVariants.{OutOfMemory}
-use Rattle.dcv_command.proofs.Faults.{fails_by, found, some_kind}
 use Rattle.dcv_command.proofs.words.matches_of.Goals as goal
+
+some_kind : (kinds : Kinds) (error : Error) → HasKind kinds error → (kind_of error ≡ OutOfMemory → ⊥) → kinds ≢ []
+some_kind [] error (inl memory) other is = other memory
+some_kind [] error (inr among) other is = among
+some_kind (kind ∷ kinds) error has other is = cc
+
+module _ (app : App) (same : app ≡ program) (words : List Text) where
+  fails_by : {T : Type 0} (result : Result T Error) → (is_simple_and_free app ≡ true → FailsBy (fault_of app words) result) → FailsBy (fault_of program words) result
+  fails_by result kinds = subst (λ one. is_simple_and_free one ≡ true → FailsBy (fault_of one words) result) same kinds refl
+
+  found : (matches : ArgMatches) → HasMatchesOf app words matches → subcommand_rows_of matches ≡ subcommand_of program words
+  found matches has = (subst (λ one. HasMatchesOf one words matches) same has refl).1
 
 pub returns-in-Ok-clause-no_fault : goal.returns-in-Ok-clause-no_fault
 returns-in-Ok-clause-no_fault g c =
