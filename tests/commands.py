@@ -23,19 +23,18 @@ def text_of(*path):
 def table():
     """Each command's name, with the number of its operands, its required options and its others."""
     text = text_of("crates", "dcv_command", "src", "program.rt")
-    constants = dict(re.findall(r"const (\w+): \[?Argument<'static>(?:; \d+\])? = (.*?);\n\n", text, re.S))
-    entries = re.findall(r'Entry \{\s*name: "([^"]*)",.*?arguments: (.*?),\n    \}', text[text.index("static COMMANDS"):], re.S)
+    constants = dict(re.findall(r"const (\w+): \[?Argument<'static>(?:; \d+\])? =\s+(.*?);\n\n", text, re.S))
+    rows = re.findall(r'^    "([\w-]+)" "(?:[^"\\]|\\.)*"\s*(.*?);$', text[text.index("static COMMANDS"):], re.M | re.S)
 
     def arguments(part):
-        words = re.sub(r"\b[A-Z][A-Z_]+\b", lambda word: arguments(constants[word[0]]) if word[0] in constants else word[0], part)
-        return words.replace("file_operand!(", "Form::Operand (")
+        return re.sub(r"\b[A-Z][A-Z_]+\b", lambda word: arguments(constants[word[0]]) if word[0] in constants else word[0], part)
 
     def parts(words):
-        ids = re.findall(r'id: "(\w+)",\s*form: Form::(\w+)', words)
-        return (len(re.findall("Form::Operand", words)), {"--" + name for name, form in ids if form == "Required"},
-                {"--" + name for name, form in ids if form == "WithDefault"})
+        forms = re.findall(r'argument! \{ "(\w+)", Form::(\w+)', words)
+        return (sum(form == "Operand" for _, form in forms), {"--" + name for name, form in forms if form == "Required"},
+                {"--" + name for name, form in forms if form == "WithDefault"})
 
-    return {name: parts(arguments(part)) for name, part in entries}
+    return {name: parts(arguments(part)) for name, part in rows}
 
 
 def shown(words):

@@ -4,14 +4,14 @@ pub use Rattle.clap.specs.Words.{Text, Row, Shape, Rule, Kinds, app_of, App, wit
 pub use Rattle.std.specs.Str.{bytes_eq}
 pub use Rattle.std.specs.List.{AllByRecursion, list_all, list_any}
 pub use Rattle.clap.specs.Kinds.{or_else, check_kinds}
-pub use Rattle.clap.specs.Walk.{Held, nothing_held, settled, Walk, idle, arg_by_index, Step, after_step, finished, walk_from, rows_after, subcommand_met, walk, has_row, Waiting, option, plain_word, Names, subcommand_or_other, with_default, positional, word_met, trailing, after_flag, long_or_other, to_positional}
+pub use Rattle.clap.specs.Walk.{Held, nothing_held, settled, Walk, idle, arg_by_index, Step, after_step, finished, walk_from, rows_after, subcommand_met, walk, has_row, Waiting, option, plain_word, Names, subcommand_or_other, with_default, positional, word_met, trailing, value, after_flag, long_or_other, to_positional}
 pub use Rattle.std.specs.Option.{option_map_or}
 pub use Rattle.std.proofs.lemmas.Slice.Eq.{bytes_eq-Decides}
 pub use Rattle.dcv_command.specs.Table.{Argument, Value, FileName, Number, Command, commands, Form, Operand, Required, WithDefault, Asks, Of, value_of}
 pub use Rattle.clap.specs.Faults.{settle_fault, step_fault, check_fault, level_fault, turn_fault, other_fault, word_fault}
 pub use Rattle.std.proofs.lemmas.Bool.{false_from_ne_true}
 pub use Rattle.clap.specs.ValueTests.{accepts, is_unsigned_in}
-pub use Rattle.clap.specs.Takes.{is_given, step_passes, default_passes, is_valid, settle_passes, turn_passes}
+pub use Rattle.clap.specs.Takes.{is_given, step_passes, default_passes, is_valid, level_passes, other_passes, settle_passes, turn_passes, word_passes}
 pub use Rattle.clap.specs.Lexer.{long_of, short_of}
 pub use Rattle.clap.specs.declared.builder.value_parser.ValueParser.TheVariants.{Unsigned}
 pub use Rattle.dcv_command.specs.Program.{program, rule_of}

@@ -1,42 +1,54 @@
 -- Listed words are taken: the walk over a command's operands, each at its place, and then over its options, each by its name.
-use Rattle.dcv_command.proofs.Common.{◌≡◌, ◌<◌, refl, sym, ap, ◌∙◌, subst, Bool, true, false, ℕ, suc, List, [], ◌∷◌, ◌++◌, Some, arith}
-use Rattle.dcv_command.proofs.Common.{length, find, fold, not, ◌==◌, ◌&&◌, ◌||◌, ◌+◌, if◌then◌else◌, option_and_then, codes, AllByRecursion}
-use Rattle.dcv_command.proofs.Common.{list_all, list_any, option_map_or, bytes_eq, or-true, false_from_ne_true, bytes_eq-Decides}
-use Rattle.dcv_command.proofs.Common.{true≢false, Kinds, Row, Shape, Text, reading_of, check_fault, check_kinds, or_else, default_passes}
-use Rattle.dcv_command.proofs.Common.{is_given, is_valid, accepts, Held, Walk, arg_by_index, finished, has_row, idle, nothing_held, settled}
-use Rattle.dcv_command.proofs.Common.{walk_from, with_default, is_false, both, IsOption, has_name, asked_in, Argument, Asks, Command, Form}
-use Rattle.dcv_command.proofs.Common.{Operand, Required, WithDefault, Of, Value, FileName, Number, commands, value_of}
-use Rattle.std.proofs.Common.{zero}
-use Rattle.std.specs.Prelude.{Contains, slice_index_or}
-use Rattle.std.proofs.lemmas.Bool.{eq-eqb, ltb-true}
+use Rattle.dcv_command.proofs.Common.{◌≡◌, ◌<◌, refl, sym, ap, ◌∙◌, subst, Bool, true, false, ℕ, List, [], ◌∷◌, ◌++◌, Option, None, Some, arith}
+use Rattle.dcv_command.proofs.Common.{length, find, fold, map, not, ◌&&◌, ◌||◌, ◌+◌, if◌then◌else◌, is_some, option_and_then, option_map, option_map_or}
+use Rattle.dcv_command.proofs.Common.{AllByRecursion, list_all, list_any, bytes_eq, false_from_ne_true, bytes_eq-Decides, true≢false, Kinds, Row, Rule}
+use Rattle.dcv_command.proofs.Common.{Shape, Text, check_fault, check_kinds, or_else, default_passes, is_given, accepts, explicit_source}
+use Rattle.dcv_command.proofs.Common.{Held, Walk, idle, nothing_held, settled, walk_from, with_default, is_false, both, append-nil}
+use Rattle.dcv_command.proofs.Common.{IsOption, has_name, asked_in, asked_of, Argument, Asks, Command, Form, Operand, Required, WithDefault, Of, Value, FileName}
+use Rattle.dcv_command.proofs.Common.{Number, value_of}
+use Rattle.std.specs.Prelude.{Contains, IfSome}
+use Rattle.std.specs.Option.{option_or}
+use Rattle.std.proofs.ByRecursion.{All-append, All-get_or, All-map, All-weaker, all_kept_by, kept_by_passes}
+use Rattle.std.proofs.lemmas.Bool.{and_from, ltb-true, or_from, or_left, or_right, or_parts}
+use Rattle.std.proofs.lemmas.List.{append_assoc}
+use Rattle.std.proofs.lemmas.List.Folds.{list_any-append}
 use Rattle.clap.specs.Faults.{defaults_fault}
-use Rattle.clap.specs.Kinds.{values_kinds}
-use Rattle.clap.specs.Values.{refused_kind}
-use Rattle.clap.specs.Walk.{is_empty}
+use Rattle.clap.specs.declared.parser.matches.ValueSource.TheVariants.{CommandLine}
+use Rattle.clap.proofs.WalkLemmas.{find-map}
 use Rattle.dcv_command.specs.Laws.{ListedWordsAreTaken}
-use Rattle.dcv_command.specs.Listed.{AreGiven, AskFor, CanBeGiven, IsChosen, OrElse, Values, are_distinct, asked_with, if_operand, operand_words, option_words, word_of}
-use Rattle.dcv_command.proofs.Arguments.{IsLookedUp, Reaches, all_looked_up, are_few, built_rule, built_rules, built_shape, default_fits, defaults_of, distinct, is_required, is_small, next_place, parser, placed, reaches_all, reaches_rest}
-use Rattle.dcv_command.proofs.Commands.{IsCommand, each_command}
-use Rattle.dcv_command.proofs.Leaves.{HasRequiredRows, are_found}
-use Rattle.dcv_command.proofs.NumberTexts.{decimal_is_one, has_no_dash}
-use Rattle.dcv_command.proofs.Plain.{HasNoDash, going}
-use Rattle.dcv_command.proofs.Rows.{HasReadableDefaults, IsFound, IsReadableDefault, has_after_defaults, has_default_rows, readable_with_defaults, says_so, value_is_there}
-use Rattle.dcv_command.proofs.Runs.{EndsWell, Runs, at_end, ask_for, holding, more}
-use Rattle.dcv_command.proofs.Uses.{Says, as_written, found_each, own_says, says_own}
-use Rattle.dcv_command.proofs.Walks.{Holds, Means, flag_goes, given_with_defaults, holds_one, nothing_holds, operand_goes, rows_are_given, value_goes}
+use Rattle.dcv_command.specs.Listed.{AreGiven, AskFor, CanBeGiven, IsChosen, Values, are_distinct, asked_with, if_operand, operand_words, option_words, word_of}
+use Rattle.dcv_command.proofs.Arguments.{AreLookedUp, IsLookedUp, Numbered, all_looked_up, built_rule, built_rules, built_shape, help, is_operand, is_required, is_small, next_place, numbered, of_numbered, operands, parser, to_numbered}
+use Rattle.dcv_command.proofs.Commands.{IsCommand, is_among}
+use Rattle.dcv_command.proofs.Lists.{all_both, any_is_found, if_found, none_passes}
+use Rattle.dcv_command.proofs.NumberTexts.{HasNoDash, decimal_is_one, has_no_dash}
+use Rattle.dcv_command.proofs.Parses.{defaults_agree, no_kind}
+use Rattle.dcv_command.proofs.Rows.{IsRead, IsReadable, OfDefault, default_of, found_after, is_read, readable, row_named}
+use Rattle.dcv_command.proofs.TakenWords.{default_is_accepted}
+use Rattle.dcv_command.proofs.Walks.{Holds, Runs, ask_for, at_end, flag_goes, given_by, going, has_given_row, holding, holds_one, more, nothing_holds, operand_goes, value_goes}
 
--- ---- lists
+-- ---- lists of arguments with different names
 
-pub all_at : {X : Type 0} (P : X → Type 0) (xs : List X) (place : ℕ) (x : X) → AllByRecursion P xs → place < length xs → slice_index_or xs place x ≡ x → P x
-all_at P [] place x all within is = absurd (omega (arith, within))
-all_at P (first ∷ xs) zero x (one, others) within is = subst P is one
-all_at P (first ∷ xs) (suc place) x (one, others) within is = all_at P xs place x others (omega (arith, within)) is
+distinct_before : (done rest : List Argument) (one : Argument) → are_distinct (done ++ one ∷ rest) ≡ true → has_name one.id done ≡ false
+distinct_before [] rest one apart = refl
+distinct_before (first ∷ done) rest one apart =
+    let parts = both (not (has_name first.id (done ++ one ∷ rest))) _ apart in
+    let other : bytes_eq one.id first.id ≡ false =
+    (or_parts (bytes_eq one.id first.id) _ (or_parts (has_name first.id done) _ (sym (list_any-append (λ (other : Argument). bytes_eq other.id first.id) done (one ∷ rest)) ∙ is_false _ parts.0)).1).0 in
+    or_from (bytes_eq first.id one.id) (has_name one.id done)
+    (false_from_ne_true (bytes_eq first.id one.id) (λ same. true≢false (sym ((bytes_eq-Decides one.id first.id).1 (sym ((bytes_eq-Decides first.id one.id).0 same))) ∙ other)))
+    (distinct_before done rest one parts.1)
+
+distinct_append : (first others : List Argument) → are_distinct first ≡ true → are_distinct others ≡ true → AllByRecursion (λ one. has_name one.id others ≡ false) first
+    → are_distinct (first ++ others) ≡ true
+distinct_append [] others apart more_apart unnamed = more_apart
+distinct_append (one ∷ first) others apart more_apart (unnamed, more_unnamed) =
+    let parts = both (not (has_name one.id first)) _ apart in
+    and_from (not (has_name one.id (first ++ others))) _
+    (ap not (list_any-append (λ (other : Argument). bytes_eq other.id one.id) first others
+    ∙ or_from (has_name one.id first) (has_name one.id others) (is_false _ parts.0) unnamed))
+    (distinct_append first others parts.1 more_apart more_unnamed)
 
 -- ---- words that are given
-
-record IsWord (values : Values) (one : Argument) (text : Text) : Type 0 where
-  no_dash : HasNoDash text
-  means : Means values one text
 
 word_is : (value : Value) (given : Of value) → is_small value ≡ true → CanBeGiven value given
     → HasNoDash (word_of value given) × ((accepts false (parser value) (word_of value given) ≡ true) × (value_of value (word_of value given) ≡ given))
@@ -44,279 +56,117 @@ word_is FileName name small is = (has_no_dash name is, (refl, refl))
 word_is (Number least most) number small is =
     let text = decimal_is_one least most number (omega (arith, ltb-true most 18446744073709551616 small)) is in (text.no_dash, (text.fits, text.value))
 
+abbrev IsOperand : Form → Type 0
+IsOperand form = IsOption form → ⊥
+
+-- what is known of an argument whose value is given
+record IsItem (arguments : List Argument) (values : Values) (at : Numbered) : Type 0 where
+  is : IsLookedUp arguments at
+  can : CanBeGiven at.1.value (values at.1)
+
+-- the text is one of the argument's, and stands for what is given for it
+abbrev Means : Values → Argument → Text → Type 0
+Means values one text = (accepts false (parser one.value) text ≡ true) × (value_of one.value text ≡ values one)
+
+module _ (name : Text) (arguments given : List Argument) (values : Values) where
+  abbrev all : List Argument
+  all = operands arguments ++ given
+
+  abbrev shape : Shape
+  shape = built_shape name arguments
+
+  abbrev IsGivenOption : Argument → Type 0
+  IsGivenOption one = (place : ℕ) × (IsItem arguments values (place, one) × IsOption one.form)
+
+  record Ended (from : Walk) (words : List Text) : Type 0 where
+    held : Held
+    place : ℕ
+    holds : Holds arguments values held all
+    runs : Runs shape (going held idle place) from words
+
+  module _ (apart : are_distinct all ≡ true) where
+    options_end : (left done : List Argument) → done ++ left ≡ all → (held : Held) (place : ℕ) → Holds arguments values held done → AllByRecursion IsGivenOption left
+        → Ended (going held idle place) (option_words values left)
+    options_end [] done e held place holds each =
+        record { held = held; place = place; holds = subst (Holds arguments values held) (sym (append-nil done) ∙ e) holds; runs = at_end }
+    options_end (one ∷ rest) done e held place holds ((number, (is, option)), each) =
+        let text = word_is one.value (values one) is.is.small is.can in
+        let fresh = distinct_before done rest one (subst (λ all. are_distinct all ≡ true) (sym e) apart) in
+        let next = options_end rest (done ++ one ∷ []) (append_assoc done (one ∷ []) rest ∙ e) (holding (map (given_by values) done) one.id (word_of one.value (values one))) place
+        (holds_one arguments values held done holds (number, one) is.is fresh text.1.0) each in
+        record {
+          held = next.held;
+          place = next.place;
+          holds = next.holds;
+          runs = more (flag_goes arguments values held done holds (number, one) is.is name text.0 place option)
+              (more (value_goes arguments values held done holds (number, one) is.is name text.0 place) next.runs);
+        }
+
+    operands_end : (left done : List Argument) (place : ℕ) → done ++ (operands left ++ given) ≡ all → (held : Held) → Holds arguments values held done
+        → AllByRecursion (λ at. IsOperand at.1.form → IsItem arguments values at) (numbered left place) → place + length left < 2000 → AllByRecursion IsGivenOption given
+        → Ended (going held idle place) (operand_words values left ++ option_words values given)
+    operands_end [] done place e held holds each few options = options_end given done e held place holds options
+    operands_end (one ∷ rest) done place e held holds (can, each) few options = by one.form (λ operand. operand) e each (operands_end rest)
+      where
+        by : (form : Form) → (IsOperand form → IsOperand one.form) → done ++ ((if is_operand form then one ∷ operands rest else operands rest) ++ given) ≡ all
+            → AllByRecursion (λ at. IsOperand at.1.form → IsItem arguments values at) (numbered rest (next_place form place))
+            → ((done : List Argument) (place : ℕ) → done ++ (operands rest ++ given) ≡ all → (held : Held) → Holds arguments values held done
+            → AllByRecursion (λ at. IsOperand at.1.form → IsItem arguments values at) (numbered rest place) → place + length rest < 2000 → AllByRecursion IsGivenOption given
+            → Ended (going held idle place) (operand_words values rest ++ option_words values given))
+            → Ended (going held idle place) (if_operand form (word_of one.value (values one)) (operand_words values rest) ++ option_words values given)
+        by Operand operand e each later =
+            let item = can (operand (λ option. option)) in
+            let text = word_is one.value (values one) item.is.small item.can in
+            let fresh = distinct_before done (operands rest ++ given) one (subst (λ all. are_distinct all ≡ true) (sym e) apart) in
+            let next = later (done ++ one ∷ []) (place + 1) (append_assoc done (one ∷ []) (operands rest ++ given) ∙ e)
+            (holding (map (given_by values) done) one.id (word_of one.value (values one)))
+            (holds_one arguments values held done holds (place, one) item.is fresh text.1.0) each (omega (arith, few)) options in
+            record {
+              held = next.held;
+              place = next.place;
+              holds = next.holds;
+              runs = more (operand_goes arguments values held done holds (place, one) item.is name text.0 (operand (λ option. option)) (omega (arith, few))) next.runs;
+            }
+        by _ operand e each later = later done place e held holds each (omega (arith, few)) options
+
+-- ---- what is chosen
+
 chosen_is : (form : Form) (value : Value) (given : Of value) (named : Bool) → named ≡ true → IsChosen form value given named → CanBeGiven value given
 chosen_is Operand value given named same is = is
 chosen_is Required value given named same is = is.1
 chosen_is (WithDefault text) value given true same is = is
 chosen_is (WithDefault text) value given false same is = absurd (true≢false (sym same))
 
--- ---- arguments that have been met
+operand_can : (form : Form) (value : Value) (given : Of value) (named : Bool) → IsOperand form → IsChosen form value given named → CanBeGiven value given
+operand_can Operand value given named operand is = is
+operand_can _ value given named operand is = absurd (operand tt)
 
--- none of those that are left is among those that have been met
-abbrev Fresh : List Argument → List Argument → Type 0
-Fresh done left = (id : Text) → has_name id left ≡ true → has_name id done ≡ false
+operand_is : (form : Form) → is_operand form ≡ true → IsOperand form
+operand_is Operand is option = option
+operand_is _ is option = true≢false (sym is)
 
-first_is_fresh : (done rest : List Argument) (one : Argument) → Fresh done (one ∷ rest) → has_name one.id done ≡ false
-first_is_fresh done rest one fresh = fresh one.id (ap (λ same. same || has_name one.id rest) ((bytes_eq-Decides one.id one.id).1 refl))
+required_named : (form : Form) (value : Value) (given : Of value) (operand named : Bool) → (not (is_operand form) || operand) ≡ true
+    → IsChosen form value given named → is_required form ≡ true → (operand || named) ≡ true
+required_named Operand value given operand named there is required = or_left operand named there
+required_named Required value given operand named there is required = or_right operand named is.0
+required_named (WithDefault text) value given operand named there is required = absurd (true≢false (sym required))
 
-rest_is_fresh : (done rest : List Argument) (one : Argument) → Fresh done (one ∷ rest) → Fresh done rest
-rest_is_fresh done rest one fresh id has = fresh id (ap (λ rest. bytes_eq one.id id || rest) has ∙ or-true (bytes_eq one.id id))
+default_means : (form : Form) (value : Value) (given : Of value) (named : Bool) → IsChosen form value given named → named ≡ false
+    → OfDefault (λ text. accepts false (parser value) text ≡ true) form
+    → OfDefault (λ text. (accepts false (parser value) text ≡ true) × (value_of value text ≡ given)) form
+default_means (WithDefault text) value given true chosen is fits = absurd (true≢false is)
+default_means (WithDefault text) value given false chosen is fits = (fits, sym chosen)
+default_means _ value given named chosen is fits = tt
 
-fresh_behind : (done rest : List Argument) (one : Argument) → has_name one.id rest ≡ false → Fresh done (one ∷ rest) → Fresh (one ∷ done) rest
-fresh_behind done rest one apart fresh id has =
-    ap (λ same. same || has_name id done)
-    (false_from_ne_true (bytes_eq one.id id)
-    (λ same. true≢false (sym has ∙ ap (λ text. has_name text rest) (sym ((bytes_eq-Decides one.id id).0 same)) ∙ apart)))
-    ∙ rest_is_fresh done rest one fresh id has
+none_lacks : (required given : Bool) → (required ≡ true → given ≡ true) → (required && not given) ≡ false
+none_lacks true given is = ap not (is refl)
+none_lacks false given is = refl
 
-abbrev with_operand : Form → Argument → List Argument → List Argument
-with_operand Operand one done = one ∷ done
-with_operand _ one done = done
-
-abbrev with_operands : List Argument → List Argument → List Argument
-with_operands [] done = done
-with_operands (one ∷ rest) done = with_operands rest (with_operand one.form one done)
-
-abbrev with_options : List Argument → List Argument → List Argument
-with_options [] done = done
-with_options (one ∷ rest) done = with_options rest (one ∷ done)
-
-still_named : (given done : List Argument) (id : Text) → has_name id done ≡ true → has_name id (with_options given done) ≡ true
-still_named [] done id has = has
-still_named (one ∷ rest) done id has = still_named rest (one ∷ done) id (ap (λ done. bytes_eq one.id id || done) has ∙ or-true (bytes_eq one.id id))
-
-given_named : (given done : List Argument) (id : Text) → has_name id given ≡ true → has_name id (with_options given done) ≡ true
-given_named [] done id has = absurd (true≢false (sym has))
-given_named (one ∷ rest) done id has =
-    by (bytes_eq one.id id) has (λ same. still_named rest (one ∷ done) id (ap (λ same. same || has_name id done) same)) (given_named rest (one ∷ done) id) refl
-  where
-    by : (same : Bool) → (same || has_name id rest) ≡ true → (bytes_eq one.id id ≡ true → has_name id (with_options rest (one ∷ done)) ≡ true)
-        → (has_name id rest ≡ true → has_name id (with_options rest (one ∷ done)) ≡ true) → bytes_eq one.id id ≡ same → has_name id (with_options rest (one ∷ done)) ≡ true
-    by true has here later is = here is
-    by false has here later is = later has
-
-operands_still : (left done : List Argument) (id : Text) → has_name id done ≡ true → has_name id (with_operands left done) ≡ true
-operands_still [] done id has = has
-operands_still (one ∷ rest) done id has = operands_still rest (with_operand one.form one done) id (by one.form)
-  where
-    by : (form : Form) → has_name id (with_operand form one done) ≡ true
-    by Operand = ap (λ done. bytes_eq one.id id || done) has ∙ or-true (bytes_eq one.id id)
-    by _ = has
-
-abbrev IsOperand : Form → Type 0
-IsOperand form = IsOption form → ⊥
-
-operands_named : (left done : List Argument) → AllByRecursion (λ one. IsOperand one.form → has_name one.id (with_operands left done) ≡ true) left
-operands_named [] done = tt
-operands_named (one ∷ rest) done =
-    (λ operand. operands_still rest (with_operand one.form one done) one.id (by one.form operand), operands_named rest (with_operand one.form one done))
-  where
-    by : (form : Form) → IsOperand form → has_name one.id (with_operand form one done) ≡ true
-    by Operand operand = ap (λ same. same || has_name one.id done) ((bytes_eq-Decides one.id one.id).1 refl)
-    by _ operand = absurd (operand tt)
-
-module _ (name : Text) (arguments : List Argument) (values : Values) where
-  abbrev shape : Shape
-  shape = built_shape name arguments
-
-  abbrev word : Argument → Text
-  word one = word_of one.value (values one)
-
-  -- ---- the operands
-
-  record Passed (from : Walk) (words : List Text) (done : List Argument) : Type 0 where
-    held : Held
-    place : ℕ
-    holds : Holds arguments values held done
-    runs : (end : Walk) (others : List Text) → Runs shape end (going held idle place) others → Runs shape end from (words ++ others)
-
-  abbrev PassesFrom : List Argument → ℕ → Type 0
-  PassesFrom left place =
-      place + length left < 2000 → Reaches arguments left place → (held : Held) (done : List Argument) → Holds arguments values held done → Fresh done left
-      → Passed (going held idle place) (operand_words values left) (with_operands left done)
-
-  module _ (one : Argument) (rest : List Argument) (place : ℕ) (is : IsLookedUp arguments one) (apart : has_name one.id rest ≡ false)
-      (few : place + suc (length rest) < 2000) (held : Held) (done : List Argument) (holds : Holds arguments values held done) (fresh : Fresh done (one ∷ rest)) where
-    one_passed : (form : Form) → (IsOperand form → CanBeGiven one.value (values one))
-        → (option_map_or (λ index. index == place) (placed form place) false ≡ true → arg_by_index (built_rules arguments 1) place ≡ Some (built_rule place one))
-        → Reaches arguments rest (next_place form place) → ((place : ℕ) → PassesFrom rest place)
-        → Passed (going held idle place) (if_operand form (word one) (operand_words values rest)) (with_operands rest (with_operand form one done))
-    one_passed Operand can here reaches later =
-        let text = word_is one.value (values one) is.small (can (λ option. option)) in
-        let unmet = first_is_fresh done rest one fresh in
-        let next = later (place + 1) (omega (arith, few)) reaches (holding holds.rows one.id (word one)) (one ∷ done)
-        (holds_one arguments values held done holds one is unmet (word one) text.1) (fresh_behind done rest one apart fresh) in
-        record {
-          held = next.held;
-          place = next.place;
-          holds = next.holds;
-          runs = λ end others runs.
-              more (operand_goes arguments values held done holds one is unmet (word one) name place text.0 (here (eq-eqb place place refl)) (omega (arith, few))) (next.runs end others runs);
-        }
-    one_passed _ can here reaches later = later place (omega (arith, few)) reaches held done holds (rest_is_fresh done rest one fresh)
-
-  operands_passed : (left : List Argument) (place : ℕ) → AllByRecursion (IsLookedUp arguments) left → are_distinct left ≡ true
-      → AllByRecursion (λ one. IsOperand one.form → CanBeGiven one.value (values one)) left → PassesFrom left place
-  operands_passed [] place each apart can few reaches held done holds fresh =
-      record { held = held; place = place; holds = holds; runs = λ end others runs. runs }
-  operands_passed (one ∷ rest) place (is, each) apart (can, others) few reaches held done holds fresh =
-      let first : has_name one.id rest ≡ false = is_false (has_name one.id rest) (both (not (has_name one.id rest)) (are_distinct rest) apart).0 in
-      one_passed one rest place is first few held done holds fresh one.form can
-      (λ here. reaches.by_index place (omega arith)
-      ∙ ap (λ same. if same then Some (built_rule place one) else arg_by_index (built_rules rest (next_place one.form place)) place) here)
-      (reaches_rest arguments rest one place first reaches)
-      (λ place. operands_passed rest place each (both (not (has_name one.id rest)) (are_distinct rest) apart).1 others)
-
-  -- ---- the options
-
-  record IsGivenOption (one : Argument) : Type 0 where
-    looked_up : IsLookedUp arguments one
-    option : IsOption one.form
-    can : CanBeGiven one.value (values one)
-
-  record Ended (from : Walk) (words : List Text) (place : ℕ) (done : List Argument) : Type 0 where
-    held : Held
-    holds : Holds arguments values held done
-    runs : Runs shape (going held idle place) from words
-
-  options_ended : (left : List Argument) (place : ℕ) → AllByRecursion IsGivenOption left → are_distinct left ≡ true → (held : Held) (done : List Argument)
-      → Holds arguments values held done → Fresh done left → Ended (going held idle place) (option_words values left) place (with_options left done)
-  options_ended [] place each apart held done holds fresh = record { held = held; holds = holds; runs = at_end }
-  options_ended (one ∷ rest) place (is, each) apart held done holds fresh =
-      let first : has_name one.id rest ≡ false = is_false (has_name one.id rest) (both (not (has_name one.id rest)) (are_distinct rest) apart).0 in
-      let text = word_is one.value (values one) is.looked_up.small is.can in
-      let unmet = first_is_fresh done rest one fresh in
-      let next = options_ended rest place each (both (not (has_name one.id rest)) (are_distinct rest) apart).1 (holding holds.rows one.id (word one)) (one ∷ done)
-      (holds_one arguments values held done holds one is.looked_up unmet (word one) text.1) (fresh_behind done rest one first fresh) in
-      record {
-        held = next.held;
-        holds = next.holds;
-        runs = more (flag_goes arguments values held done holds one is.looked_up unmet (word one) name place text.0 is.option)
-            (more (value_goes arguments values held done holds one is.looked_up unmet (word one) name place text.0) next.runs);
-      }
-
-  -- ---- the end
-
-  -- what is known of each argument after the words
-  record IsSettled (rows : List Row) (one : Argument) : Type 0 where
-    looked_up : IsLookedUp arguments one
-    required : is_required one.form ≡ true → has_row one.id rows ≡ true
-    default : has_row one.id rows ≡ false → IsReadableDefault (Says (Means values) arguments) one.id (reading_of (parser one.value)) (defaults_of one.form)
-
-  readable_defaults : (rows : List Row) (left : List Argument) (place : ℕ) → AllByRecursion (IsSettled rows) left
-      → HasReadableDefaults (Says (Means values) arguments) rows (built_rules left place)
-  readable_defaults rows [] place each = (λ none. tt, tt)
-  readable_defaults rows (one ∷ rest) place (is, each) = (is.default, readable_defaults rows rest (next_place one.form place) each)
-
-  has_required : (rows : List Row) (left : List Argument) (place : ℕ) → AllByRecursion (IsSettled rows) left
-      → HasRequiredRows (built_rules left place) (fold with_default rows (built_rules arguments 1))
-  has_required rows [] place each = (λ wrong. absurd (true≢false (sym wrong)), tt)
-  has_required rows (one ∷ rest) place (is, each) =
-      (λ required. has_after_defaults (built_rules arguments 1) one.id rows (is.required required), has_required rows rest (next_place one.form place) each)
-
-  always_none : (has : Bool) (kinds : Kinds) → (if has || true then [] else kinds) ≡ []
-  always_none has kinds = ap (λ any. if any then [] else kinds) (or-true has)
-
-  no_default_fault : (left : List Argument) (place : ℕ) (rows : List Row) → AllByRecursion (IsLookedUp arguments) left → defaults_fault rows (built_rules left place) ≡ []
-  unfolding defaults_fault
-  no_default_fault [] place rows each = ap (λ kinds. or_else kinds []) (always_none (has_row (codes "help") rows) _)
-  no_default_fault (one ∷ rest) place rows (is, each) =
-      ap (λ kinds. or_else kinds (defaults_fault (with_default rows (built_rule place one)) (built_rules rest (next_place one.form place))))
-      (by one.form (has_row one.id rows) is.default)
-      ∙ no_default_fault rest (next_place one.form place) (with_default rows (built_rule place one)) each
-    where
-      by : (form : Form) (has : Bool) → default_fits form one.value ≡ true
-          → (if has || is_empty (defaults_of form) then [] else values_kinds false (parser one.value) (defaults_of form)) ≡ []
-      by (WithDefault text) true fits = refl
-      by (WithDefault text) false fits = ap (λ fits. or_else (if fits then [] else refused_kind (parser one.value) ∷ []) []) fits
-      by _ has fits = always_none has []
-
-  defaults_pass : (left : List Argument) (place : ℕ) → AllByRecursion (IsLookedUp arguments) left → list_all default_passes (built_rules left place) ≡ true
-  defaults_pass [] place each = refl
-  defaults_pass (one ∷ rest) place (is, each) =
-      ap (λ first. first && list_all default_passes (built_rules rest (next_place one.form place))) (by one.form is.default)
-      ∙ defaults_pass rest (next_place one.form place) each
-    where
-      by : (form : Form) → default_fits form one.value ≡ true
-          → (is_empty (defaults_of form) || (true && list_all (λ text. accepts false (parser one.value) text) (defaults_of form))) ≡ true
-      by (WithDefault text) fits = ap (λ fits. fits && true) fits
-      by _ fits = refl
-
-  all_free : (left : List Argument) (place : ℕ) → list_all (λ rule. rule.is_free) (built_rules left place) ≡ true
-  all_free [] place = refl
-  all_free (one ∷ rest) place = all_free rest (next_place one.form place)
-
-  none_lacks : (rows : List Row) (left : List Argument) (place : ℕ) → AllByRecursion (λ one. is_required one.form ≡ true → is_given one.id rows ≡ true) left
-      → list_any (λ rule. rule.required && not (is_given rule.id rows)) (built_rules left place) ≡ false
-  none_lacks rows [] place each = refl
-  none_lacks rows (one ∷ rest) place (is, each) =
-      ap (λ lacks. lacks || list_any (λ rule. rule.required && not (is_given rule.id rows)) (built_rules rest (next_place one.form place)))
-      (by (is_required one.form) is) ∙ none_lacks rows rest (next_place one.form place) each
-    where
-      by : (required : Bool) → (required ≡ true → is_given one.id rows ≡ true) → (required && not (is_given one.id rows)) ≡ false
-      by true given = ap not (given refl)
-      by false given = refl
-
-  all_there : (rows : List Row) (left : List Argument) (place : ℕ) → AllByRecursion (λ one. is_required one.form ≡ true → is_given one.id rows ≡ true) left
-      → list_all (λ rule. not rule.required || is_given rule.id rows) (built_rules left place) ≡ true
-  all_there rows [] place each = refl
-  all_there rows (one ∷ rest) place (is, each) =
-      ap (λ there. there && list_all (λ rule. not rule.required || is_given rule.id rows) (built_rules rest (next_place one.form place)))
-      (by (is_required one.form) is) ∙ all_there rows rest (next_place one.form place) each
-    where
-      by : (required : Bool) → (required ≡ true → is_given one.id rows ≡ true) → (not required || is_given one.id rows) ≡ true
-      by true given = given refl
-      by false given = refl
-
-  values_asked : (left : List Argument) (asks : Asks left) (rows : List Row) → AllByRecursion (IsLookedUp arguments) left
-      → AllByRecursion (λ one. IsFound (Says (Means values) arguments) one.id rows) left → asked_in left asks rows ≡ Some (asked_with left asks values)
-  values_asked [] request rows each found = refl
-  values_asked (one ∷ rest) asks rows (is, each) (here, found) =
-      let means = says_own (Means values) arguments one here.readable.text is (says_so (Says (Means values) arguments) one.id rows here) in
-      ap (option_and_then (λ given. asked_in rest (asks given) rows))
-      (value_is_there (Says (Means values) arguments) one.id rows here one.value means.0 ∙ ap (λ given. Some given) means.1)
-      ∙ values_asked rest (asks (values one)) rows each found
-
-  module _ (held : Held) (done : List Argument) (holds : Holds arguments values held done) (each : AllByRecursion (IsSettled holds.rows) arguments) where
-    abbrev at_last : List Row
-    at_last = fold with_default holds.rows (built_rules arguments 1)
-
-    are_looked_up : (left : List Argument) → AllByRecursion (IsSettled holds.rows) left → AllByRecursion (IsLookedUp arguments) left
-    are_looked_up [] each = tt
-    are_looked_up (one ∷ rest) (is, each) = (is.looked_up, are_looked_up rest each)
-
-    are_given : (left : List Argument) → AllByRecursion (IsSettled holds.rows) left
-        → AllByRecursion (λ one. is_required one.form ≡ true → is_given one.id at_last ≡ true) left
-    are_given [] each = tt
-    are_given (one ∷ rest) (is, each) = (
-      λ required. given_with_defaults one.id (built_rules arguments 1) holds.rows (rows_are_given one.id holds.rows holds.given (is.required required)),
-      are_given rest each,
-    )
-
-    asked_at_last : (asks : Asks arguments) → asked_in arguments asks at_last ≡ Some (asked_with arguments asks values)
-    asked_at_last asks =
-        let found = are_found (Says (Means values) arguments) (built_rules arguments 1) at_last
-        (readable_with_defaults (Says (Means values) arguments) (built_rules arguments 1) holds.rows holds.rows (λ id has. has)
-        (readable_defaults holds.rows arguments 1 each) holds.readable)
-        (has_required holds.rows arguments 1 each) (has_default_rows (built_rules arguments 1) holds.rows) in
-        values_asked arguments asks at_last (are_looked_up arguments each) (found_each (Says (Means values) arguments) arguments 1 at_last found)
-
-    abbrev behind : Held → Kinds
-    behind held = or_else (defaults_fault held.rows shape.rules) (check_fault shape (fold with_default held.rows shape.rules) false)
-
-    ends_well : (asks : Asks arguments) → EndsWell shape (asked_in arguments asks) held (asked_with arguments asks values)
-    ends_well asks =
-        record {
-          no_fault = ap (λ kinds. or_else kinds (behind (settled (built_rules arguments 1) held))) holds.no_fault ∙ ap behind holds.settles
-              ∙ ap (λ kinds. or_else kinds (check_fault shape at_last false)) (no_default_fault arguments 1 holds.rows (are_looked_up arguments each))
-              ∙ ap (check_kinds false false) (none_lacks at_last arguments 1 (are_given arguments each));
-          passes = ap (λ passes. passes && (list_all default_passes shape.rules && is_valid shape (finished shape.rules held) false)) holds.passes
-              ∙ ap (λ passes. passes && is_valid shape (finished shape.rules held) false) (defaults_pass arguments 1 (are_looked_up arguments each))
-              ∙ ap (λ (held : Held). is_valid shape (fold with_default held.rows shape.rules) false) holds.settles
-              ∙ ap (λ free. free && list_all (λ rule. not rule.required || is_given rule.id at_last) shape.rules) (all_free arguments 1)
-              ∙ all_there at_last arguments 1 (are_given arguments each);
-          asked = ap (λ (held : Held). asked_in arguments asks (fold with_default held.rows shape.rules)) holds.settles ∙ asked_at_last asks;
-        }
+values_asked : (values : Values) (left : List Argument) (asks : Asks left) (rows : List Row) → AllByRecursion (IsRead (Means values) rows) left
+    → asked_in left asks rows ≡ Some (asked_with left asks values)
+values_asked values [] request rows each = refl
+values_asked values (one ∷ rest) asks rows (is, others) =
+    ap (option_and_then (λ given. asked_in rest (asks given) rows)) (is.value ∙ ap Some is.is.1) ∙ values_asked values rest (asks (values one)) rows others
 
 -- ---- a command of the table
 
@@ -324,126 +174,154 @@ module _ (command : Command) (is : IsCommand command) (values : Values) (given :
   abbrev arguments : List Argument
   arguments = command.arguments
 
-  each : AllByRecursion (IsLookedUp arguments) arguments
-  each = all_looked_up arguments is.sound
+  abbrev every : List Argument
+  every = all command.name arguments given values
 
-  -- each of those that are left, where it is of all
-  abbrev Chosen : Argument → Type 0
-  Chosen one = IsChosen one.form one.value (values one) (has_name one.id given)
+  looked_up : AreLookedUp arguments
+  looked_up = all_looked_up arguments is.sound
 
-  operands_can : (left : List Argument) → AllByRecursion Chosen left → AllByRecursion (λ one. IsOperand one.form → CanBeGiven one.value (values one)) left
-  operands_can [] chosen = tt
-  operands_can (one ∷ rest) (first, others) = (by one.form first, operands_can rest others)
-    where
-      by : (form : Form) → IsChosen form one.value (values one) (has_name one.id given) → IsOperand form → CanBeGiven one.value (values one)
-      by Operand chosen operand = chosen
-      by _ chosen operand = absurd (operand tt)
+  abbrev IsKnown : Numbered → Type 0
+  IsKnown at = IsLookedUp arguments at × IsChosen at.1.form at.1.value (values at.1) (has_name at.1.id given)
 
-  passed : Passed command.name arguments values (walk_from nothing_held) (operand_words values arguments) (with_operands arguments [])
-  passed =
-      operands_passed command.name arguments values arguments 1 each (distinct arguments is.sound) (operands_can arguments are.chosen)
-      (omega (arith, are_few arguments is.sound)) (reaches_all arguments) nothing_held [] (nothing_holds arguments values) (λ id has. refl)
+  known : AllByRecursion IsKnown (numbered arguments 1)
+  known =
+      all_both (IsLookedUp arguments) (λ at. IsChosen at.1.form at.1.value (values at.1) (has_name at.1.id given)) IsKnown (λ at is chosen. (is, chosen))
+      (numbered arguments 1) looked_up.each (to_numbered (λ one. IsChosen one.form one.value (values one) (has_name one.id given)) arguments 1 are.chosen)
 
-  -- ---- its options
+  abbrev HasPlace : (Numbered → Type 0) → Argument → Type 0
+  HasPlace P one = (place : ℕ) × P (place, one)
+
+  placed : (P : Numbered → Type 0) → ((at : Numbered) → IsKnown at → P at) → AllByRecursion (HasPlace P) arguments
+  placed P so = of_numbered (HasPlace P) arguments 1 (All-weaker IsKnown (λ at. HasPlace P at.1) (λ at known. (at.0, so at known)) (numbered arguments 1) known)
 
   options_given : (left : List Argument) → AllByRecursion (λ one. Contains arguments one × IsOption one.form) left
-      → ((id : Text) → has_name id left ≡ true → has_name id given ≡ true) → AllByRecursion (IsGivenOption command.name arguments values) left
+      → ((id : Text) → has_name id left ≡ true → has_name id given ≡ true) → AllByRecursion (IsGivenOption command.name arguments given values) left
   options_given [] options named = tt
-  options_given (one ∷ rest) (option, others) named = (
-    record {
-      looked_up = all_at (IsLookedUp arguments) arguments option.0.0 one each option.0.1 option.0.2;
-      option = option.1;
-      can = chosen_is one.form one.value (values one) (has_name one.id given)
-          (named one.id (ap (λ same. same || has_name one.id rest) ((bytes_eq-Decides one.id one.id).1 refl)))
-          (all_at Chosen arguments option.0.0 one are.chosen option.0.1 option.0.2);
-    },
-    options_given rest others (λ id has. named id (ap (λ rest. bytes_eq one.id id || rest) has ∙ or-true (bytes_eq one.id id))),
-  )
+  options_given (one ∷ rest) ((has, option), others) named =
+      let at : HasPlace IsKnown one = subst (HasPlace IsKnown) has.2 (All-get_or (HasPlace IsKnown) arguments has.0 one has.1 (placed IsKnown (λ at known. known))) in
+      let own = named one.id (or_left (bytes_eq one.id one.id) (has_name one.id rest) ((bytes_eq-Decides one.id one.id).1 refl)) in (
+        (at.0, (record { is = at.1.0; can = chosen_is one.form one.value (values one) (has_name one.id given) own at.1.1 }, option)),
+        options_given rest others (λ id is. named id (or_right (bytes_eq one.id id) (has_name id rest) is)),
+      )
 
-  abbrev IsMetOperand : Argument → Type 0
-  IsMetOperand one = IsLookedUp arguments one × IsOperand one.form
+  options : AllByRecursion (IsGivenOption command.name arguments given values) given
+  options = options_given given are.options (λ id is. is)
 
-  operands_only : (left done : List Argument) → AllByRecursion (IsLookedUp arguments) left → AllByRecursion IsMetOperand done
-      → AllByRecursion IsMetOperand (with_operands left done)
-  operands_only [] done looked_up met = met
-  operands_only (one ∷ rest) done (first, others) met = operands_only rest (with_operand one.form one done) others (by one.form (λ operand. (first, operand)))
-    where
-      by : (form : Form) → (IsOperand form → IsMetOperand one) → AllByRecursion IsMetOperand (with_operand form one done)
-      by Operand operand = (operand (λ option. option), met)
-      by _ operand = met
+  operand_item : (at : Numbered) → IsKnown at → IsOperand at.1.form → IsItem arguments values at
+  operand_item at known operand = record { is = known.0; can = operand_can at.1.form at.1.value (values at.1) (has_name at.1.id given) operand known.1 }
+
+  abbrev IsOperandItem : Argument → Type 0
+  IsOperandItem one = IsOperand one.form × HasPlace (IsItem arguments values) one
+
+  operand_items : AllByRecursion IsOperandItem (operands arguments)
+  operand_items =
+      all_both (HasPlace (λ at. IsOperand at.1.form → IsItem arguments values at)) (λ one. is_operand one.form ≡ true) IsOperandItem
+      (λ one item is. (operand_is one.form is, (item.0, item.1 (operand_is one.form is)))) (operands arguments)
+      (all_kept_by (λ one. is_operand one.form) (HasPlace (λ at. IsOperand at.1.form → IsItem arguments values at)) arguments
+      (placed (λ at. IsOperand at.1.form → IsItem arguments values at) operand_item)) (kept_by_passes (λ one. is_operand one.form) arguments)
 
   -- an option bears no operand's name
-  no_operand : (one : Argument) → IsLookedUp arguments one → IsOption one.form → (done : List Argument) → AllByRecursion IsMetOperand done → has_name one.id done ≡ false
-  no_operand one looked_up option [] met = refl
-  no_operand one looked_up option (other ∷ done) (first, others) = by (bytes_eq other.id one.id) refl (no_operand one looked_up option done others)
+  unnamed : (one : Argument) → IsOperandItem one → has_name one.id given ≡ false
+  unnamed one (operand, item) = any_is_found (λ other. bytes_eq other.id one.id) given
+      ∙ by (find (λ other. bytes_eq other.id one.id) given) (if_found (IsGivenOption command.name arguments given values) (λ other. bytes_eq other.id one.id) given options)
     where
-      by : (same : Bool) → bytes_eq other.id one.id ≡ same → has_name one.id done ≡ false → (same || has_name one.id done) ≡ false
-      by false differs later = later
-      by true same later =
-          let found : Some other ≡ Some one =
-          sym first.0.argument ∙ ap (λ id. find (λ another. bytes_eq another.id id) arguments) ((bytes_eq-Decides other.id one.id).0 same) ∙ looked_up.argument in
-          let is_one : other ≡ one = cc in
-          absurd (first.1 (subst (λ (another : Argument). IsOption another.form) (sym is_one) option))
+      by : (found : Option Argument) → IfSome found (λ other. IsGivenOption command.name arguments given values other × (bytes_eq other.id one.id ≡ true))
+          → is_some found ≡ false
+      by None is = refl
+      by (Some other) ((number, (other_item, option)), same) =
+          absurd (operand (subst (λ found. IfSome found (λ (at : Numbered). IsOption at.1.form))
+          (sym other_item.is.argument ∙ ap (λ id. find (λ (at : Numbered). bytes_eq at.1.id id) (numbered arguments 1)) ((bytes_eq-Decides other.id one.id).0 same)
+          ∙ item.1.is.argument) option))
 
-  options_fresh : (left : List Argument) → AllByRecursion (IsGivenOption command.name arguments values) left → Fresh (with_operands arguments []) left
-  options_fresh [] options id has = absurd (true≢false (sym has))
-  options_fresh (one ∷ rest) (first, others) id has = by (bytes_eq one.id id) refl has (options_fresh rest others id)
-    where
-      by : (same : Bool) → bytes_eq one.id id ≡ same → (same || has_name id rest) ≡ true → (has_name id rest ≡ true → has_name id (with_operands arguments []) ≡ false)
-          → has_name id (with_operands arguments []) ≡ false
-      by true same has later =
-          subst (λ id. has_name id (with_operands arguments []) ≡ false) ((bytes_eq-Decides one.id id).0 same)
-          (no_operand one first.looked_up first.option (with_operands arguments []) (operands_only arguments [] each tt))
-      by false differs has later = later has
-
-  abbrev all_met : List Argument
-  all_met = with_options given (with_operands arguments [])
-
-  ended : Ended command.name arguments values (going passed.held idle passed.place) (option_words values given) passed.place all_met
+  ended : Ended command.name arguments given values (walk_from nothing_held) (operand_words values arguments ++ option_words values given)
   ended =
-      let options = options_given given are.options (λ id has. has) in
-      options_ended command.name arguments values given passed.place options are.once passed.held (with_operands arguments []) passed.holds (options_fresh given options)
+      operands_end command.name arguments given values
+      (distinct_append (operands arguments) given looked_up.distinct are.once
+      (All-weaker IsOperandItem (λ one. has_name one.id given ≡ false) unnamed (operands arguments) operand_items))
+      arguments [] 1 refl nothing_held (nothing_holds arguments values)
+      (All-weaker IsKnown (λ at. IsOperand at.1.form → IsItem arguments values at) operand_item (numbered arguments 1) known)
+      (omega (arith, looked_up.few)) options
 
-  -- ---- after all words
+  -- ---- after the words
 
-  settled_each : (left : List Argument) → AllByRecursion (IsLookedUp arguments) left → AllByRecursion Chosen left
-      → AllByRecursion (λ one. IsOperand one.form → has_name one.id (with_operands arguments []) ≡ true) left
-      → AllByRecursion (IsSettled command.name arguments values ended.holds.rows) left
-  settled_each [] looked_up chosen named = tt
-  settled_each (one ∷ rest) (looked_up, others) (chosen, more_chosen) (named, more_named) =
-      (record { looked_up = looked_up; required = required one.form chosen named; default = default one.form chosen looked_up.default }, settled_each rest others more_chosen more_named)
+  abbrev rows : List Row
+  rows = map (given_by values) every
+
+  abbrev at_last : List Row
+  at_last = fold with_default rows (built_rules arguments)
+
+  each_readable : AllByRecursion (IsReadable (Means values) arguments) rows
+  each_readable =
+      All-map (IsReadable (Means values) arguments) (given_by values) every
+      (All-append (λ one. IsReadable (Means values) arguments (given_by values one)) (operands arguments) given
+      (All-weaker IsOperandItem (λ one. IsReadable (Means values) arguments (given_by values one)) (λ one item. of_item one item.1.0 item.1.1) (operands arguments) operand_items)
+      (All-weaker (IsGivenOption command.name arguments given values) (λ one. IsReadable (Means values) arguments (given_by values one))
+      (λ one item. of_item one item.0 item.1.0) given options))
     where
-      required : (form : Form) → IsChosen form one.value (values one) (has_name one.id given)
-          → (IsOperand form → has_name one.id (with_operands arguments []) ≡ true) → is_required form ≡ true → has_row one.id ended.holds.rows ≡ true
-      required Operand chosen named is = ended.holds.has one.id ∙ still_named given (with_operands arguments []) one.id (named (λ option. option))
-      required Required chosen named is = ended.holds.has one.id ∙ given_named given (with_operands arguments []) one.id chosen.0
-      required (WithDefault text) chosen named is = absurd (true≢false (sym is))
+      of_item : (one : Argument) (place : ℕ) → IsItem arguments values (place, one) → IsReadable (Means values) arguments (given_by values one)
+      of_item one place item =
+          readable (Means values) (λ one text is. is.0) arguments (place, one) item.is (word_of one.value (values one)) CommandLine
+          (word_is one.value (values one) item.is.small item.can).1
 
-      left_out : (named : Bool) (can : Type 0) (text : Text) → has_name one.id given ≡ named → OrElse named can (values one ≡ value_of one.value text)
-          → has_row one.id ended.holds.rows ≡ false → values one ≡ value_of one.value text
-      left_out true can text named chosen none =
-          absurd (true≢false (sym (ended.holds.has one.id ∙ given_named given (with_operands arguments []) one.id named) ∙ none))
-      left_out false can text named chosen none = chosen
+  -- what has been given is there
+  given_last : (at : Numbered) → IsLookedUp arguments at → has_name at.1.id every ≡ true → is_given at.1.id at_last ≡ true
+  given_last at is named =
+      ap (λ found. option_map_or (λ (row : Row). explicit_source row.source) found false)
+      (found_after (built_rules arguments) rows at.1.id looked_up.rules_apart ∙ ap (λ found. option_or (row_named at.1.id rows) (default_of found)) is.by_id
+      ∙ ap (λ found. option_or found (default_of (Some (built_rule at)))) (sym (find-map (λ (row : Row). bytes_eq row.id at.1.id) (given_by values) every)))
+      ∙ by (find (λ (one : Argument). bytes_eq one.id at.1.id) every) (sym (any_is_found (λ (one : Argument). bytes_eq one.id at.1.id) every) ∙ named)
+    where
+      by : (found : Option Argument) → is_some found ≡ true
+          → option_map_or (λ (row : Row). explicit_source row.source) (option_or (option_map (given_by values) found) (default_of (Some (built_rule at)))) false ≡ true
+      by None some = absurd (true≢false (sym some))
+      by (Some one) some = refl
 
-      default : (form : Form) → IsChosen form one.value (values one) (has_name one.id given) → default_fits form one.value ≡ true
-          → has_row one.id ended.holds.rows ≡ false
-          → IsReadableDefault (Says (Means values) arguments) one.id (reading_of (parser one.value)) (defaults_of form)
-      default (WithDefault text) chosen fits none =
-          record {
-            text = text;
-            first = refl;
-            as_written = as_written one.value;
-            says = own_says (Means values) arguments one text looked_up (fits, sym (left_out (has_name one.id given) (CanBeGiven one.value (values one)) text refl chosen none));
-          }
-      default _ chosen fits none = tt
+  abbrev lacks : Rule → Bool
+  lacks rule = rule.required && not (is_given rule.id at_last)
+
+  nothing_lacks : list_any lacks (built_rules arguments) ≡ false
+  nothing_lacks =
+      none_passes lacks (built_rules arguments)
+      (All-append (λ rule. lacks rule ≡ false) (map built_rule (numbered arguments 1)) (help ∷ [])
+      (All-map (λ rule. lacks rule ≡ false) built_rule (numbered arguments 1)
+      (All-weaker IsKnown (λ at. lacks (built_rule at) ≡ false)
+      (λ at known. none_lacks (is_required at.1.form) (is_given at.1.id at_last)
+      (λ required. given_last at known.0 (list_any-append (λ (one : Argument). bytes_eq one.id at.1.id) (operands arguments) given
+      ∙ required_named at.1.form at.1.value (values at.1) (has_name at.1.id (operands arguments)) (has_name at.1.id given) known.0.named known.1 required)))
+      (numbered arguments 1) known))
+      (refl, tt))
+
+  each_read : AllByRecursion (IsRead (Means values) at_last) arguments
+  each_read =
+      of_numbered (IsRead (Means values) at_last) arguments 1
+      (All-weaker IsKnown (λ at. IsRead (Means values) at_last at.1)
+      (λ at known. is_read (Means values) (λ one text is. is.0) arguments looked_up rows each_readable (ap (check_kinds false false) nothing_lacks) at known.0
+      (λ none. default_means at.1.form at.1.value (values at.1) (has_name at.1.id given) known.1 (left_out at none)
+      (default_is_accepted at.1.form at.1.value known.0.default)))
+      (numbered arguments 1) known)
+    where
+      left_out : (at : Numbered) → row_named at.1.id rows ≡ None → has_name at.1.id given ≡ false
+      left_out at none =
+          (or_parts (has_name at.1.id (operands arguments)) (has_name at.1.id given)
+          (sym (list_any-append (λ (one : Argument). bytes_eq one.id at.1.id) (operands arguments) given) ∙ sym (has_given_row values at.1.id every)
+          ∙ any_is_found (λ (row : Row). bytes_eq row.id at.1.id) rows ∙ ap is_some none)).1
+
+  abbrev behind : Held → Kinds
+  behind held =
+      or_else (defaults_fault held.rows (built_rules arguments))
+      (check_fault (built_shape command.name arguments) (fold with_default held.rows (built_rules arguments)) false)
 
   listed : AskFor (command.name ∷ operand_words values arguments ++ option_words values given) (asked_with arguments command.asks values)
   listed =
-      let end = going ended.held idle passed.place in
-      ask_for command is (operand_words values arguments ++ option_words values given) end (asked_with arguments command.asks values)
-      (passed.runs end (option_words values given) ended.runs)
-      (ends_well command.name arguments values ended.held all_met ended.holds (settled_each arguments each are.chosen (operands_named arguments [])) command.asks)
+      ask_for command is (operand_words values arguments ++ option_words values given) (going ended.held idle ended.place) (asked_with arguments command.asks values)
+      ended.runs
+      (ap (λ kinds. or_else kinds (behind (settled (built_rules arguments) ended.held))) ended.holds.no_fault ∙ ap behind ended.holds.settles
+      ∙ ap (λ kinds. or_else kinds (check_fault (built_shape command.name arguments) at_last false))
+      (no_kind (defaults_fault rows (built_rules arguments))
+      (defaults_agree {P = Unit {0}} (built_rules arguments) rows (both (list_all default_passes (built_rules arguments)) _ looked_up.checked).0).same)
+      ∙ ap (check_kinds false false) nothing_lacks)
+      (ap (λ (held : Held). asked_of command (fold with_default held.rows (built_rules arguments))) ended.holds.settles
+      ∙ values_asked values arguments command.asks at_last each_read)
 
 pub listed_words_are_taken : ListedWordsAreTaken
-listed_words_are_taken command values given among are =
-    listed command (all_at IsCommand commands among.0 command each_command among.1 among.2) values given are
+listed_words_are_taken command values given among are = listed command (is_among command among) values given are

@@ -8,7 +8,11 @@ use Rattle.std.proofs.lemmas.Fmt.{decimal_is_IsNumeral}
 use Rattle.std.proofs.lemmas.Str.Parse.{digit_from_value}
 use Rattle.clap.proofs.ValueTestLemmas.{Accepts-accepts}
 use Rattle.dcv_command.specs.Listed.{IsFileName}
-use Rattle.dcv_command.proofs.Plain.{HasNoDash}
+
+-- the word is not empty, and its first byte is no dash
+abbrev pub HasNoDash : Text → Type 0
+HasNoDash [] = ⊥
+HasNoDash (first ∷ rest) = (first == 45) ≡ false
 
 pub has_no_dash : (name : Text) → IsFileName name → HasNoDash name
 has_no_dash [] is = absurd is

@@ -1,196 +1,209 @@
--- Rows that a request can be read from: each has a first value, of which something is known by the name of its argument.
-use Rattle.dcv_command.proofs.Common.{◌≡◌, refl, sym, ap, ◌∙◌, subst, Bool, true, false, List, [], ◌∷◌, ◌++◌, None, Some, find, fold, ◌||◌}
-use Rattle.dcv_command.proofs.Common.{if◌then◌else◌, option_and_then, option_map, AllByRecursion, option_map_or, bytes_eq, digits_value}
-use Rattle.dcv_command.proofs.Common.{without_leading_plus, false_from_ne_true, bytes_eq-Decides, true≢false, Row, Rule, Text}
-use Rattle.dcv_command.proofs.Common.{explicit_source, is_given, accepts, has_row, with_default, number_of, value_in, Value, FileName}
+-- The rows of a parse: which one an argument has at the end, and the value that is read from it.
+use Rattle.dcv_command.proofs.Common.{◌≡◌, refl, sym, ap, ◌∙◌, subst, Bool, true, false, List, [], ◌∷◌, ◌++◌, Option, None, Some, find, fold, not, ◌&&◌, ◌||◌}
+use Rattle.dcv_command.proofs.Common.{if◌then◌else◌, option_and_then, option_map, option_map_or, is_some, AllByRecursion, list_all, list_any, bytes_eq, append-nil}
+use Rattle.dcv_command.proofs.Common.{digits_value, without_leading_plus, bytes_eq-Decides, true≢false, both, Row, Rule, Text, reading_of, explicit_source}
+use Rattle.dcv_command.proofs.Common.{is_given, accepts, has_row, with_default, check_kinds, number_of, value_in, Argument, Form, WithDefault, Value, FileName}
 use Rattle.dcv_command.proofs.Common.{Number, value_of}
-use Rattle.std.specs.Prelude.{slice_get}
+use Rattle.std.specs.Prelude.{IfSome, slice_get}
+use Rattle.std.specs.Option.{option_or}
+use Rattle.std.proofs.lemmas.List.Folds.{find-append}
 use Rattle.clap.specs.Values.{read_as}
-use Rattle.clap.specs.Walk.{default_rows, reading_by, row_text, stronger, with_values, without}
+use Rattle.clap.specs.Walk.{arg_by_id, at_row, default_rows, more_values, reading_by, row_text, used, with_values}
 use Rattle.clap.specs.declared.builder.value_parser.Reading.{Reading}
 use Rattle.clap.specs.declared.builder.value_parser.Reading.TheVariants.{AsWritten}
 use Rattle.clap.specs.declared.parser.matches.ValueSource.{ValueSource}
-use Rattle.clap.specs.declared.parser.matches.ValueSource.TheVariants.{DefaultValue}
-use Rattle.dcv_command.proofs.Arguments.{parser}
-
--- what is known of the first value of an argument, by its name
-pub record IsReadable (Says : Text → Text → Type 0) (row : Row) : Type 0 where
-  pub text : Text
-  pub first : slice_get row.values 0 ≡ Some text
-  pub as_written : row.reading ≡ AsWritten
-  pub says : Says row.id text
-
-abbrev pub AreReadable : (Text → Text → Type 0) → List Row → Type 0
-AreReadable Says rows = AllByRecursion (IsReadable Says) rows
+use Rattle.clap.specs.declared.parser.matches.ValueSource.TheVariants.{CommandLine, DefaultValue}
+use Rattle.dcv_command.proofs.Arguments.{AreLookedUp, IsLookedUp, Numbered, built_rule, built_rules, defaults_of, is_required, numbered, parser}
+use Rattle.dcv_command.proofs.Lists.{any_is_found, are_apart, each_fails, if_found, none_found}
 
 -- the row of an argument that had none
 abbrev pub new_row : Text → Reading → ValueSource → List Text → Row
 new_row id how source values = record { id = id; values = values; count = None; source = Some source; reading = how }
 
--- ---- rows that change
+abbrev pub given_row : Argument → Text → Row
+given_row one text = new_row one.id (reading_of (parser one.value)) CommandLine (text ∷ [])
 
-pub readable_without : (Says : Text → Text → Type 0) (id : Text) (rows : List Row) → AreReadable Says rows → AreReadable Says (without id rows)
-readable_without Says id [] all = tt
-readable_without Says id (row ∷ rows) (one, others) = by (bytes_eq row.id id) (readable_without Says id rows others)
+abbrev pub row_named : Text → List Row → Option Row
+row_named id rows = find (λ row. bytes_eq row.id id) rows
+
+-- ---- a row more
+
+at_row_behind : (id : Text) (change : Row → List Row) (missing rows : List Row) → has_row id rows ≡ false → at_row id change missing rows ≡ rows ++ missing
+at_row_behind id change missing [] none = refl
+at_row_behind id change missing (row ∷ rows) none = by (bytes_eq row.id id) none (at_row_behind id change missing rows)
   where
-    by : (same : Bool) → AreReadable Says (without id rows) → AreReadable Says (if same then rows else row ∷ without id rows)
-    by true later = others
-    by false later = (one, later)
+    by : (same : Bool) → (same || has_row id rows) ≡ false → (has_row id rows ≡ false → at_row id change missing rows ≡ rows ++ missing)
+        → (if same then change row ++ rows else row ∷ at_row id change missing rows) ≡ row ∷ (rows ++ missing)
+    by true none later = absurd (true≢false none)
+    by false none later = ap (λ rest. row ∷ rest) (later none)
 
-first_stays : (front back : List Text) (text : Text) → slice_get front 0 ≡ Some text → slice_get (front ++ back) 0 ≡ Some text
-first_stays [] back text e = let wrong : None ≡ Some text = e in cc
-first_stays (one ∷ front) back text e = e
+-- a first use of an argument
+pub used_behind : (at : Numbered) (text : Text) (rows : List Row) → has_row at.1.id rows ≡ false
+    → used (built_rule at) (text ∷ []) rows ≡ rows ++ given_row at.1 text ∷ []
+used_behind at text rows none =
+    ap (with_values at.1.id (reading_of (parser at.1.value)) CommandLine (text ∷ []))
+    (at_row_behind at.1.id (λ _. []) [] rows none ∙ append-nil rows)
+    ∙ at_row_behind at.1.id (more_values CommandLine (text ∷ [])) (given_row at.1 text ∷ []) rows none
 
-abbrev with_more : Row → ValueSource → List Text → Row
-with_more row source values = record row { values = row.values ++ values; source = Some (stronger row.source source) }
+-- ---- the defaults
 
-readable_with_more : (Says : Text → Text → Type 0) (row : Row) (source : ValueSource) (values : List Text) → IsReadable Says row → IsReadable Says (with_more row source values)
-readable_with_more Says row source values is =
-    record { text = is.text; first = first_stays row.values values is.text is.first; as_written = is.as_written; says = is.says }
+abbrev pub default_row : Rule → List Text → Option Row
+default_row rule [] = None
+default_row rule (value ∷ values) = Some (new_row rule.id (reading_by rule) DefaultValue (value ∷ values))
 
-pub readable_with : (Says : Text → Text → Type 0) (id : Text) (how : Reading) (source : ValueSource) (values : List Text) (rows : List Row)
-    → IsReadable Says (new_row id how source values) → AreReadable Says rows → AreReadable Says (with_values id how source values rows)
-readable_with Says id how source values [] new all = (new, tt)
-readable_with Says id how source values (row ∷ rows) new (one, others) = by (bytes_eq row.id id) (readable_with Says id how source values rows new others)
+or_none : (found : Option Row) → option_or found None ≡ found
+or_none None = refl
+or_none (Some row) = refl
+
+or_there : (found other : Option Row) → is_some found ≡ true → option_or found other ≡ found
+or_there None other some = absurd (true≢false (sym some))
+or_there (Some row) other some = refl
+
+-- what a default changes of what an argument has
+after_default : (rule : Rule) (rows : List Row) (id : Text)
+    → row_named id (with_default rows rule) ≡ (if bytes_eq rule.id id then option_or (row_named id rows) (default_row rule rule.defaults) else row_named id rows)
+after_default rule rows id = by (has_row rule.id rows) (bytes_eq rule.id id) rule.defaults refl refl
   where
-    by : (same : Bool) → AreReadable Says (with_values id how source values rows)
-        → AreReadable Says (if same then with_more row source values ∷ rows else row ∷ with_values id how source values rows)
-    by true later = (readable_with_more Says row source values one, others)
-    by false later = (one, later)
+    behind : (value : Text) (values : List Text) → has_row rule.id rows ≡ false
+        → row_named id (default_rows rule.id (reading_by rule) (value ∷ values) rows)
+        ≡ option_or (row_named id rows) (if bytes_eq rule.id id then default_row rule (value ∷ values) else None)
+    behind value values none =
+        ap (row_named id) (at_row_behind rule.id (more_values DefaultValue (value ∷ values)) _ rows none) ∙ find-append (λ row. bytes_eq row.id id) rows _
 
--- ---- rows that are there
+    by : (has same : Bool) (values : List Text) → has_row rule.id rows ≡ has → bytes_eq rule.id id ≡ same
+        → row_named id (if has then rows else default_rows rule.id (reading_by rule) values rows)
+        ≡ (if same then option_or (row_named id rows) (default_row rule values) else row_named id rows)
+    by true false values has is = refl
+    by true true values has is =
+        sym (or_there (row_named id rows) _ (sym (any_is_found (λ (row : Row). bytes_eq row.id id) rows) ∙ ap (λ id. has_row id rows) (sym ((bytes_eq-Decides rule.id id).0 is)) ∙ has))
+    by false true [] has is = sym (or_none (row_named id rows))
+    by false false [] has is = refl
+    by false true (value ∷ values) has is =
+        behind value values has ∙ ap (λ same. option_or (row_named id rows) (if same then default_row rule (value ∷ values) else None)) is
+    by false false (value ∷ values) has is =
+        behind value values has ∙ ap (λ same. option_or (row_named id rows) (if same then default_row rule (value ∷ values) else None)) is ∙ or_none (row_named id rows)
 
-has_still : (id other : Text) (how : Reading) (source : ValueSource) (values : List Text) (rows : List Row) → has_row other rows ≡ true
-    → has_row other (with_values id how source values rows) ≡ true
-has_still id other how source values [] has = absurd (true≢false (sym has))
-has_still id other how source values (row ∷ rows) has = by (bytes_eq row.id id) (bytes_eq row.id other) refl has (has_still id other how source values rows)
+abbrev pub default_of : Option Rule → Option Row
+default_of found = option_and_then (λ rule. default_row rule rule.defaults) found
+
+-- what an argument has at the end
+pub found_after : (rules : List Rule) (rows : List Row) (id : Text) → are_apart (λ (rule other : Rule). bytes_eq rule.id other.id) (λ rule. rule) rules ≡ true
+    → row_named id (fold with_default rows rules) ≡ option_or (row_named id rows) (default_of (arg_by_id rules id))
+found_after [] rows id apart = sym (or_none (row_named id rows))
+found_after (rule ∷ rules) rows id apart =
+    found_after rules (with_default rows rule) id parts.1 ∙ ap (λ found. option_or found (default_of (arg_by_id rules id))) (after_default rule rows id)
+    ∙ by (bytes_eq rule.id id) refl
   where
-    by : (same named : Bool) → bytes_eq row.id other ≡ named → (named || has_row other rows) ≡ true
-        → (has_row other rows ≡ true → has_row other (with_values id how source values rows) ≡ true)
-        → has_row other (if same then with_more row source values ∷ rows else row ∷ with_values id how source values rows) ≡ true
-    by true named is has later = rw is has
-    by false true is has later = rw is refl
-    by false false is has later = rw is (later has)
+    parts : (list_all (λ other. not (bytes_eq other.id rule.id)) rules ≡ true) × (are_apart (λ (rule other : Rule). bytes_eq rule.id other.id) (λ rule. rule) rules ≡ true)
+    parts = both (list_all (λ (other : Rule). not (bytes_eq other.id rule.id)) rules) _ apart
 
-has_now : (id : Text) (how : Reading) (source : ValueSource) (values : List Text) (rows : List Row) → bytes_eq id id ≡ true
-    → has_row id (with_values id how source values rows) ≡ true
-has_now id how source values [] same = rw same refl
-has_now id how source values (row ∷ rows) same = by (bytes_eq row.id id) refl (has_now id how source values rows same)
-  where
-    by : (named : Bool) → bytes_eq row.id id ≡ named → has_row id (with_values id how source values rows) ≡ true
-        → has_row id (if named then with_more row source values ∷ rows else row ∷ with_values id how source values rows) ≡ true
-    by true is later = rw is refl
-    by false is later = rw is later
-
--- ---- defaults
-
-abbrev pub IsReadableDefault : (Text → Text → Type 0) → Text → Reading → List Text → Type 0
-IsReadableDefault Says id how [] = Unit {0}
-IsReadableDefault Says id how (value ∷ values) = IsReadable Says (new_row id how DefaultValue (value ∷ values))
-
-default_rows_readable : (Says : Text → Text → Type 0) (id : Text) (how : Reading) (values : List Text) (rows : List Row) → IsReadableDefault Says id how values
-    → AreReadable Says rows → AreReadable Says (default_rows id how values rows)
-default_rows_readable Says id how [] rows new all = all
-default_rows_readable Says id how (value ∷ values) rows new all = readable_with Says id how DefaultValue (value ∷ values) rows new all
-
-readable_with_default : (Says : Text → Text → Type 0) (rule : Rule) (rows : List Row)
-    → (has_row rule.id rows ≡ false → IsReadableDefault Says rule.id (reading_by rule) rule.defaults) → AreReadable Says rows → AreReadable Says (with_default rows rule)
-readable_with_default Says rule rows new all = by (has_row rule.id rows) refl
-  where
-    by : (has : Bool) → has_row rule.id rows ≡ has → AreReadable Says (if has then rows else default_rows rule.id (reading_by rule) rule.defaults rows)
-    by true is = all
-    by false is = default_rows_readable Says rule.id (reading_by rule) rule.defaults rows (new is) all
-
-default_rows_have : (id other : Text) (how : Reading) (values : List Text) (rows : List Row) → has_row other rows ≡ true → has_row other (default_rows id how values rows) ≡ true
-default_rows_have id other how [] rows has = has
-default_rows_have id other how (value ∷ values) rows has = has_still id other how DefaultValue (value ∷ values) rows has
-
-has_after_default : (rule : Rule) (other : Text) (rows : List Row) → has_row other rows ≡ true → has_row other (with_default rows rule) ≡ true
-has_after_default rule other rows has = by (has_row rule.id rows)
-  where
-    by : (there : Bool) → has_row other (if there then rows else default_rows rule.id (reading_by rule) rule.defaults rows) ≡ true
-    by true = has
-    by false = default_rows_have rule.id other (reading_by rule) rule.defaults rows has
-
-abbrev pub HasDefault : List Text → Type 0
-HasDefault [] = ⊥
-HasDefault (value ∷ values) = Unit {0}
-
-has_its_default : (rule : Rule) (rows : List Row) → HasDefault rule.defaults → has_row rule.id (with_default rows rule) ≡ true
-has_its_default rule rows some = by (has_row rule.id rows) refl
-  where
-    added : (values : List Text) → HasDefault values → has_row rule.id (default_rows rule.id (reading_by rule) values rows) ≡ true
-    added [] some = absurd some
-    added (value ∷ values) some = has_now rule.id (reading_by rule) DefaultValue (value ∷ values) rows ((bytes_eq-Decides rule.id rule.id).1 refl)
-
-    by : (there : Bool) → has_row rule.id rows ≡ there
-        → has_row rule.id (if there then rows else default_rows rule.id (reading_by rule) rule.defaults rows) ≡ true
-    by true is = is
-    by false is = added rule.defaults some
-
--- ---- the defaults of all arguments
-
--- the default of each argument that has no row
-abbrev pub HasReadableDefaults : (Text → Text → Type 0) → List Row → List Rule → Type 0
-HasReadableDefaults Says rows rules =
-    AllByRecursion (λ rule. has_row rule.id rows ≡ false → IsReadableDefault Says rule.id (reading_by rule) rule.defaults) rules
-
-pub readable_with_defaults : (Says : Text → Text → Type 0) (rules : List Rule) (first rows : List Row)
-    → ((id : Text) → has_row id first ≡ true → has_row id rows ≡ true) → HasReadableDefaults Says first rules → AreReadable Says rows
-    → AreReadable Says (fold with_default rows rules)
-readable_with_defaults Says [] first rows has new all = all
-readable_with_defaults Says (rule ∷ rules) first rows has (one, others) all =
-    readable_with_defaults Says rules first (with_default rows rule) (λ id is. has_after_default rule id rows (has id is)) others
-    (readable_with_default Says rule rows
-    (λ none. one (false_from_ne_true (has_row rule.id first) (λ some. true≢false (sym (has rule.id some) ∙ none)))) all)
-
-pub has_after_defaults : (rules : List Rule) (other : Text) (rows : List Row) → has_row other rows ≡ true → has_row other (fold with_default rows rules) ≡ true
-has_after_defaults [] other rows has = has
-has_after_defaults (rule ∷ rules) other rows has = has_after_defaults rules other (with_default rows rule) (has_after_default rule other rows has)
-
--- each argument with a default has a row
-abbrev pub HasDefaultRows : List Rule → List Row → Type 0
-HasDefaultRows rules rows = AllByRecursion (λ rule. HasDefault rule.defaults → has_row rule.id rows ≡ true) rules
-
-pub has_default_rows : (rules : List Rule) (rows : List Row) → HasDefaultRows rules (fold with_default rows rules)
-has_default_rows [] rows = tt
-has_default_rows (rule ∷ rules) rows =
-    (λ some. has_after_defaults rules rule.id (with_default rows rule) (has_its_default rule rows some), has_default_rows rules (with_default rows rule))
+    by : (same : Bool) → bytes_eq rule.id id ≡ same
+        → option_or (if same then option_or (row_named id rows) (default_row rule rule.defaults) else row_named id rows) (default_of (arg_by_id rules id))
+        ≡ option_or (row_named id rows) (default_of (if same then Some rule else arg_by_id rules id))
+    by false is = refl
+    by true is =
+        ap (λ found. option_or (option_or (row_named id rows) (default_row rule rule.defaults)) (default_of found))
+        (none_found (λ (other : Rule). bytes_eq other.id id) rules
+        (subst (λ id. list_all (λ (other : Rule). not (bytes_eq other.id id)) rules ≡ true) ((bytes_eq-Decides rule.id id).0 is) parts.0))
+        ∙ or_none _
 
 -- ---- what is read
 
-pub record IsFound (Says : Text → Text → Type 0) (id : Text) (rows : List Row) : Type 0 where
-  pub row : Row
-  pub found : find (λ one. bytes_eq one.id id) rows ≡ Some row
-  pub named : bytes_eq row.id id ≡ true
-  pub readable : IsReadable Says row
+-- what is known of a text, by the name of its argument
+abbrev Says : (Argument → Text → Type 0) → List Argument → Text → Text → Type 0
+Says P arguments id text = IfSome (find (λ other. bytes_eq other.1.id id) (numbered arguments 1)) (λ at. P at.1 text)
 
-pub found_readable : (Says : Text → Text → Type 0) (id : Text) (rows : List Row) → AreReadable Says rows → has_row id rows ≡ true → IsFound Says id rows
-found_readable Says id [] all has = absurd (true≢false (sym has))
-found_readable Says id (row ∷ rows) (one, others) has = by (bytes_eq row.id id) refl has (found_readable Says id rows others)
-  where
-    by : (named : Bool) → bytes_eq row.id id ≡ named → (named || has_row id rows) ≡ true → (has_row id rows ≡ true → IsFound Says id rows) → IsFound Says id (row ∷ rows)
-    by true is has later = record { row = row; found = rw is refl; named = is; readable = one }
-    by false is has later = let next = later has in record { row = next.row; found = rw is next.found; named = next.named; readable = next.readable }
+-- the first value of an argument is written so, and this is known of it
+pub record IsReadable (P : Argument → Text → Type 0) (arguments : List Argument) (row : Row) : Type 0 where
+  pub text : Text
+  pub first : slice_get row.values 0 ≡ Some text
+  pub as_written : row.reading ≡ AsWritten
+  pub says : Says P arguments row.id text
 
-pub given_is_there : (id : Text) (rows : List Row) → is_given id rows ≡ true → has_row id rows ≡ true
-given_is_there id [] given = given
-given_is_there id (row ∷ rows) given = by (bytes_eq row.id id) given (given_is_there id rows)
-  where
-    by : (named : Bool) → option_map_or (λ (one : Row). explicit_source one.source) (if named then Some row else find (λ one. bytes_eq one.id id) rows) false ≡ true
-        → (is_given id rows ≡ true → has_row id rows ≡ true) → (named || has_row id rows) ≡ true
-    by true given later = refl
-    by false given later = later given
+pub record IsRead (P : Argument → Text → Type 0) (rows : List Row) (one : Argument) : Type 0 where
+  pub text : Text
+  pub value : value_in one.value one.id rows ≡ Some (value_of one.value text)
+  pub is : P one text
 
-module _ (Says : Text → Text → Type 0) (id : Text) (rows : List Row) (is : IsFound Says id rows) where
-  pub says_so : Says id is.readable.text
-  says_so = subst (λ one. Says one is.readable.text) ((bytes_eq-Decides is.row.id id).0 is.named) is.readable.says
+as_written : (value : Value) → reading_of (parser value) ≡ AsWritten
+as_written FileName = refl
+as_written (Number least most) = refl
 
-  -- what stands for the argument, where its parser accepts the text
-  pub value_is_there : (value : Value) → accepts false (parser value) is.readable.text ≡ true → value_in value id rows ≡ Some (value_of value is.readable.text)
-  value_is_there FileName accepted = ap (option_and_then (λ (row : Row). slice_get row.values 0)) is.found ∙ is.readable.first
-  value_is_there (Number least most) accepted =
-      ap (λ row. option_and_then (number_of least most) (option_and_then row_text row)) is.found
-      ∙ ap (λ how. option_and_then (number_of least most) (option_map (read_as how) (slice_get is.row.values 0))) is.readable.as_written
-      ∙ ap (λ text. option_and_then (number_of least most) (option_map (read_as AsWritten) text)) is.readable.first
-      ∙ ap (λ (kept : Bool). if kept then Some (digits_value 10 (without_leading_plus is.readable.text)) else None) accepted
+value_is_there : (value : Value) (id : Text) (rows : List Row) (row : Row) (text : Text) → row_named id rows ≡ Some row → slice_get row.values 0 ≡ Some text
+    → row.reading ≡ AsWritten → accepts false (parser value) text ≡ true → value_in value id rows ≡ Some (value_of value text)
+value_is_there FileName id rows row text found first how accepted = ap (option_and_then (λ (row : Row). slice_get row.values 0)) found ∙ first
+value_is_there (Number least most) id rows row text found first how accepted =
+    ap (λ row. option_and_then (number_of least most) (option_and_then row_text row)) found
+    ∙ ap (λ how. option_and_then (number_of least most) (option_map (read_as how) (slice_get row.values 0))) how
+    ∙ ap (λ text. option_and_then (number_of least most) (option_map (read_as AsWritten) text)) first
+    ∙ ap (λ (kept : Bool). if kept then Some (digits_value 10 (without_leading_plus text)) else None) accepted
+
+lacks_none : (lacks : Bool) → check_kinds false false lacks ≡ [] → lacks ≡ false
+lacks_none true none = cc
+lacks_none false none = refl
+
+given_if : (required given : Bool) → (required && not given) ≡ false → required ≡ true → given ≡ true
+given_if true true lacks is = refl
+given_if true false lacks is = absurd (true≢false lacks)
+given_if false given lacks is = absurd (true≢false (sym is))
+
+-- P of the default, if there is one
+abbrev pub OfDefault : (Text → Type 0) → Form → Type 0
+OfDefault P (WithDefault text) = P text
+OfDefault P _ = Unit {0}
+
+module _ (P : Argument → Text → Type 0) (taken : (one : Argument) (text : Text) → P one text → accepts false (parser one.value) text ≡ true)
+    (arguments : List Argument) where
+  pub readable : (at : Numbered) → IsLookedUp arguments at → (text : Text) (source : ValueSource) → P at.1 text
+      → IsReadable P arguments (new_row at.1.id (reading_of (parser at.1.value)) source (text ∷ []))
+  readable at looked_up text source is =
+      record {
+        text = text;
+        first = refl;
+        as_written = as_written at.1.value;
+        says = subst (λ found. IfSome found (λ other. P other.1 text)) (sym looked_up.argument) is;
+      }
+
+  module _ (looked_up : AreLookedUp arguments) (rows : List Row) (all : AllByRecursion (IsReadable P arguments) rows)
+      (none : check_kinds false false
+      (list_any (λ rule. rule.required && not (is_given rule.id (fold with_default rows (built_rules arguments)))) (built_rules arguments)) ≡ []) where
+    abbrev at_last : List Row
+    at_last = fold with_default rows (built_rules arguments)
+
+    module _ (at : Numbered) (is : IsLookedUp arguments at) where
+      read_from : (row : Row) → row_named at.1.id at_last ≡ Some row → bytes_eq row.id at.1.id ≡ true → IsReadable P arguments row → IsRead P at_last at.1
+      read_from row found named can =
+          let says : P at.1 can.text = subst (λ found. IfSome found (λ other. P other.1 can.text)) is.argument
+          (subst (λ id. Says P arguments id can.text) ((bytes_eq-Decides row.id at.1.id).0 named) can.says) in
+          record {
+            text = can.text;
+            value = value_is_there at.1.value at.1.id at_last row can.text found can.first can.as_written (taken at.1 can.text says);
+            is = says;
+          }
+
+      required : is_required at.1.form ≡ true → is_given at.1.id at_last ≡ true
+      required =
+          let lacks : (is_required at.1.form && not (is_given at.1.id at_last)) ≡ false =
+          (subst (λ found. IfSome found (λ rule. ((rule.required && not (is_given rule.id at_last)) ≡ false) × (bytes_eq rule.id at.1.id ≡ true))) is.by_id
+          (if_found (λ (rule : Rule). (rule.required && not (is_given rule.id at_last)) ≡ false) (λ (rule : Rule). bytes_eq rule.id at.1.id) (built_rules arguments)
+          (each_fails (λ (rule : Rule). rule.required && not (is_given rule.id at_last)) (built_rules arguments) (lacks_none _ none)))).0 in
+          given_if (is_required at.1.form) (is_given at.1.id at_last) lacks
+
+      -- after the words each argument is read, from its row or as its default
+      pub is_read : (row_named at.1.id rows ≡ None → OfDefault (P at.1) at.1.form) → IsRead P at_last at.1
+      is_read default = by (row_named at.1.id rows) refl (if_found (IsReadable P arguments) (λ row. bytes_eq row.id at.1.id) rows all)
+        where
+          after : row_named at.1.id at_last ≡ option_or (row_named at.1.id rows) (default_row (built_rule at) (defaults_of at.1.form))
+          after = found_after (built_rules arguments) rows at.1.id looked_up.rules_apart ∙ ap (λ found. option_or (row_named at.1.id rows) (default_of found)) is.by_id
+
+          left_out : (form : Form) → OfDefault (P at.1) form → (is_required form ≡ true → is_given at.1.id at_last ≡ true)
+              → row_named at.1.id at_last ≡ default_row (built_rule at) (defaults_of form) → IsRead P at_last at.1
+          left_out (WithDefault text) can must found =
+              read_from _ found ((bytes_eq-Decides at.1.id at.1.id).1 refl) (readable at is text DefaultValue can)
+          left_out _ can must found =
+              absurd (true≢false (sym (must refl) ∙ ap (λ found. option_map_or (λ (row : Row). explicit_source row.source) found false) found))
+
+          by : (found : Option Row) → row_named at.1.id rows ≡ found → IfSome found (λ row. IsReadable P arguments row × (bytes_eq row.id at.1.id ≡ true))
+              → IsRead P at_last at.1
+          by (Some row) is can = read_from row (after ∙ ap (λ found. option_or found (default_row (built_rule at) (defaults_of at.1.form))) is) can.1 can.0
+          by None is can = left_out at.1.form (default is) required (after ∙ ap (λ found. option_or found (default_row (built_rule at) (defaults_of at.1.form))) is)

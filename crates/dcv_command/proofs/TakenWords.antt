@@ -1,170 +1,225 @@
--- Words in which no fault is found name a subcommand, and each subcommand asks for something.
-use Rattle.dcv_command.proofs.Common.{◌≡◌, ℕ, Bool, true, false, List, [], ◌∷◌, Option, None, Some, refl, sym, subst, codes, ap, ◌∙◌}
-use Rattle.dcv_command.proofs.Common.{is_some, find, ◌||◌, option_and_then, option_map, fold, not, ◌&&◌, if◌then◌else◌, option_map_or}
-use Rattle.dcv_command.proofs.Common.{bytes_eq, AllByRecursion, list_any, true≢false, Text, Row, Rule, Shape, Held, Names}
-use Rattle.dcv_command.proofs.Common.{Walk, Waiting, idle, Step, explicit_source}
-use Rattle.dcv_command.proofs.Common.{is_given, long_of, short_of, finished, settled, nothing_held, walk, walk_from, word_met, rows_after}
-use Rattle.dcv_command.proofs.Common.{subcommand_met, subcommand_or_other, long_or_other, after_flag, plain_word, after_step, to_positional}
-use Rattle.dcv_command.proofs.Common.{arg_by_index, check_kinds, check_fault, level_fault, settle_fault, turn_fault, step_fault, word_fault}
-use Rattle.dcv_command.proofs.Common.{other_fault, program, request_in, request_of_subcommand, Command, commands}
-use Rattle.std.specs.Prelude.{IsSome}
-use Rattle.clap.specs.Words.{built}
-use Rattle.clap.specs.Walk.{subcommand, value, Outcome, done, waits}
-use Rattle.clap.specs.Walk.{answers_to, walked, walked_from}
-use Rattle.clap.specs.Simple.{built_leaf, entered, help_shape, label_of, rows_at, names_of, subcommand_of}
-use Rattle.clap.specs.declared.error.kind.ErrorKind.TheVariants.{DisplayHelp, InvalidSubcommand}
-use Rattle.clap.specs.Kinds.{Kinds}
-use Rattle.clap.specs.Faults.{entered_fault, defaults_fault, walk_fault}
+-- Words in which no fault is found are a command's name and words of the command, and these ask for something.
+use Rattle.dcv_command.proofs.Common.{◌≡◌, App, ℕ, suc, Bool, true, false, List, [], ◌∷◌, Option, None, Some, refl, sym, subst, codes, ap, ◌∙◌}
+use Rattle.dcv_command.proofs.Common.{find, map, length, ◌||◌, ◌&&◌, if◌then◌else◌, option_and_then, option_map, bytes_eq, ◌==◌, AllByRecursion, list_all, true≢false, both, arith}
+use Rattle.dcv_command.proofs.Common.{bytes_eq-Decides, Text, Row, Rule, Held, idle, fault_of, takes, accepts, has_row, is_false}
+use Rattle.dcv_command.proofs.Common.{short_of, long_of, finished, settled, nothing_held, walk, walk_from, rows_after, subcommand_met}
+use Rattle.dcv_command.proofs.Common.{after_flag, long_or_other, subcommand_or_other, trailing, check_fault, level_fault, settle_fault, step_passes, other_passes, turn_passes}
+use Rattle.dcv_command.proofs.Common.{program, request_of_subcommand, asked_in, asked_of, value_of, Command, commands, Argument, Asks, Form, WithDefault, Value}
+use Rattle.std.proofs.Common.{zero}
+use Rattle.std.specs.Prelude.{IfSome, IsSome, nat_le, slice_get, not}
+use Rattle.std.specs.Option.{option_or}
+use Rattle.std.specs.Str.{chars}
+use Rattle.std.proofs.ByRecursion.{All-append, All-map, All-push, All-weaker}
+use Rattle.std.proofs.Math.Bool.{or-false}
+use Rattle.std.proofs.lemmas.List.Folds.{find-append}
+use Rattle.std.proofs.lemmas.Bool.{and_left, leb-true}
+use Rattle.clap.specs.Words.{built, subcommand_of}
+use Rattle.clap.specs.Walk.{answers_to, bundle_met, is_empty, plain, used}
+use Rattle.clap.specs.Simple.{built_leaf, help_shape, label_of, names_of}
+use Rattle.clap.specs.Faults.{defaults_fault, walk_fault}
+use Rattle.clap.specs.Takes.{entered_passes, flag_word_passes, flags_pass, long_passes, short_passes, use_passes, walk_passes}
+use Rattle.clap.specs.declared.parser.matches.ValueSource.TheVariants.{CommandLine}
+use Rattle.clap.proofs.OnLiterals.{clap_on_literals}
+use Rattle.clap.proofs.WalkLemmas.{find-map}
 use Rattle.dcv_command.specs.Request.{IsTaken, Request, request_of}
-use Rattle.dcv_command.specs.Laws.{TakenWordsAsk}
-use Rattle.dcv_command.proofs.Arguments.{built_rules, built_shape}
-use Rattle.dcv_command.proofs.Commands.{IsCommand, each_command, leaves, turned}
-use Rattle.dcv_command.proofs.Steps.{first_is_empty, going_has_none, last_is_empty}
-use Rattle.dcv_command.proofs.Uses.{words_ask}
+use Rattle.dcv_command.specs.Laws.{AreACommands, TakenWordsAreACommands, TakenWordsAsk}
+use Rattle.dcv_command.proofs.Arguments.{AreLookedUp, IsLookedUp, Numbered, all_looked_up, built_rule, built_rules, built_shape, defaults_of, help, numbered, of_numbered, parser}
+use Rattle.dcv_command.proofs.Commands.{IsCommand, asked_below, built_command, each_command, fault_alone, faults_below, found_below, is_among, names, top}
+use Rattle.dcv_command.proofs.Lists.{if_found}
+use Rattle.dcv_command.proofs.Parses.{Keeps, is_none, no_kind, last_is_empty, level_keeps, program_agrees, use_same}
+use Rattle.dcv_command.proofs.Rows.{IsRead, IsReadable, OfDefault, is_read, readable, used_behind}
 
--- ---- where a subcommand is required, one is entered
+-- ---- a first word that is no command's name is refused
 
-is_entered : (shape : Shape) (rows : List Row) (has : Bool) → shape.subcommand_required ≡ true → check_fault shape rows has ≡ [] → has ≡ true
-is_entered shape rows true required none = refl
-is_entered shape rows false required none =
-    by (shape.arg_required_else_help && not (list_any (λ r. explicit_source r.source) rows)) shape.subcommand_required
-    (not (shape.subcommand_negates_reqs && false) && list_any (λ rule. rule.required && not (is_given rule.id rows)) shape.rules) required none
-  where
-    by : (help required argument : Bool) → required ≡ true → check_kinds help required argument ≡ [] → false ≡ true
-    by true required argument is e = cc
-    by false true argument is e = cc
-    by false false argument is e = is
+abbrev help_if : Bool → Option Rule
+help_if named = if named then Some help else None
 
-level_is_entered : (shape : Shape) (names : Names) (held : Held) (words : List Text) (has : Bool) (below : Kinds) → shape.subcommand_required ≡ true
-    → level_fault shape names held words has below ≡ [] → has ≡ true
-level_is_entered shape names held words has below required none =
-    let end = (walk shape.rules names held words).held in
-    is_entered shape (finished shape.rules end) has required
-    (last_is_empty (defaults_fault (settled shape.rules end).rows shape.rules) _
-    (last_is_empty (settle_fault shape.rules shape.args_override_self end) _
-    (last_is_empty below _ (last_is_empty (walk_fault shape names (walk_from held) words) _ none))))
+long_refused : (named : Bool) (attached : Option Text) → long_passes top.rules false (help_if named) attached nothing_held ≡ false
+long_refused true None = refl
+long_refused true (Some text) = refl
+long_refused false attached = refl
 
--- ---- it is none that asks for help
+short_refused : (named : Bool) (rest : Text) (passes : Held → Bool) → short_passes top.rules false (help_if named) rest nothing_held passes ≡ false
+short_refused true rest passes = refl
+short_refused false rest passes = refl
 
-abbrev IsNoHelp : Text → Type 0
-IsNoHelp name = bytes_eq name (codes "help") ≡ false
+flags_refused : (most : ℕ) (flags word : Text) (character : Option ℕ) → slice_get (chars flags) 0 ≡ character
+    → (flags_pass top.rules false most flags 0 nothing_held
+    && step_passes top 1 (after_flag top.rules idle word (bundle_met top.rules most flags 0 plain nothing_held).0 (bundle_met top.rules most flags 0 plain nothing_held).1).0
+    (after_flag top.rules idle word (bundle_met top.rules most flags 0 plain nothing_held).0 (bundle_met top.rules most flags 0 plain nothing_held).1).1) ≡ false
+unfolding bundle_met flags_pass
+flags_refused zero flags word character is = refl
+flags_refused (suc most) flags word None is = rw is refl
+flags_refused (suc most) flags word (Some x) is = rw is (and_left _ _ (short_refused ((104 == x) || false) _ _))
 
-abbrev StopsNotAtHelp : Option (Text × List Text) → Type 0
-StopsNotAtHelp None = Unit {0}
-StopsNotAtHelp (Some stop) = IsNoHelp stop.0
+word_refused : (word : Text) (long : Option (Text × Option Text)) (short : Option Text) → short_of word ≡ short
+    → (flag_word_passes top.rules false long word nothing_held
+    && step_passes top 1 (long_or_other top.rules idle word long nothing_held).0 (long_or_other top.rules idle word long nothing_held).1) ≡ false
+word_refused word (Some parts) short is = and_left _ _ (long_refused (bytes_eq (codes "help") parts.0 || false) parts.1)
+word_refused word None (Some flags) is = rw is (flags_refused _ flags word _ refl)
+word_refused word None None is = rw is refl
 
-abbrev IsNoHelpStep : Step → Type 0
-IsNoHelpStep (subcommand name) = IsNoHelp name
-IsNoHelpStep _ = Unit {0}
+-- whether a first word passes, by the subcommand that it names and whether it is `--`
+abbrev first_passes : Text → Option Text → Bool → Bool
+first_passes word None dashes =
+    (dashes || flag_word_passes top.rules false (long_of word) word nothing_held)
+    && step_passes top 1 (if dashes then (nothing_held, trailing 1) else long_or_other top.rules idle word (long_of word) nothing_held).0
+    (if dashes then (nothing_held, trailing 1) else long_or_other top.rules idle word (long_of word) nothing_held).1
+first_passes word (Some name) dashes = true
 
-plain_no_help : (rules : List Rule) (waiting : Waiting) (word : Text) (held : Held) → IsNoHelpStep (plain_word rules waiting word held).1
-plain_no_help rules idle word held = tt
-plain_no_help rules _ word held = tt
+walk_taken : (words : List Text) → takes program words ≡ true → walk_passes top names (walk_from nothing_held) words ≡ true
+walk_taken words taken = (both _ _ (both (entered_passes (built program) (walk top.rules names nothing_held words).stopped) _ taken).1).0
 
-flag_no_help : (rules : List Rule) (waiting : Waiting) (word : Text) (held : Held) (outcome : Outcome) → IsNoHelpStep (after_flag rules waiting word held outcome).1
-flag_no_help rules waiting word held done = tt
-flag_no_help rules waiting word held (waits id) = tt
-flag_no_help rules waiting word held _ = plain_no_help rules waiting word held
+help_refused : (rest : List Text) → takes program (codes "help" ∷ rest) ≡ true → ⊥
+unfolding clap_on_literals
+help_refused rest taken = true≢false (sym (walk_taken (codes "help" ∷ rest) taken))
 
-other_no_help : (rules : List Rule) (waiting : Waiting) (word : Text) (held : Held) (long : Option (Text × Option Text)) (short : Option Text)
-    → short_of word ≡ short → IsNoHelpStep (long_or_other rules waiting word long held).1
-other_no_help rules waiting word held (Some parts) short is = flag_no_help rules waiting word _ _
-other_no_help rules waiting word held None (Some flags) is = rw is (flag_no_help rules waiting word _ _)
-other_no_help rules waiting word held None None is = rw is (plain_no_help rules waiting word held)
+dashes_refused : (rest : List Text) → takes program (codes "--" ∷ rest) ≡ true → ⊥
+unfolding clap_on_literals
+dashes_refused [] taken = true≢false (sym taken)
+dashes_refused (next ∷ rest) taken = true≢false (sym (walk_taken (codes "--" ∷ next ∷ rest) taken))
 
-met_no_help : (shape : Shape) (met : Option Text) (waiting : Waiting) (position : ℕ) (word : Text) (held : Held) → shape.disable_help_subcommand ≡ false
-    → other_fault shape met word held ≡ [] → IsNoHelpStep (subcommand_or_other shape.rules met waiting position word held).1
-met_no_help shape (Some name) waiting position word held enabled none =
-    by (bytes_eq name (codes "help")) refl (subst (λ (e : Bool). (if bytes_eq name (codes "help") && not e then DisplayHelp ∷ InvalidSubcommand ∷ [] else []) ≡ []) enabled none)
-  where
-    by : (help : Bool) → bytes_eq name (codes "help") ≡ help → (if help && true then DisplayHelp ∷ InvalidSubcommand ∷ [] else []) ≡ [] → IsNoHelp name
-    by true is e = cc
-    by false is e = is
-met_no_help shape None waiting position word held enabled none = by (bytes_eq word (45 ∷ 45 ∷ [])) refl
-  where
-    by : (dashes : Bool) → bytes_eq word (45 ∷ 45 ∷ []) ≡ dashes → IsNoHelpStep (subcommand_or_other shape.rules None waiting position word held).1
-    by true is = rw is tt
-    by false is = rw is (other_no_help shape.rules waiting word held (long_of word) (short_of word) refl)
+-- ---- and so words that are taken begin with one
 
-word_no_help : (shape : Shape) (names : Names) (is_trailing : Bool) (waiting : Waiting) (position : ℕ) (word : Text) (held : Held) → shape.disable_help_subcommand ≡ false
-    → word_fault shape names is_trailing waiting word held ≡ [] → IsNoHelpStep (word_met shape.rules names is_trailing waiting position word held).1
-word_no_help shape names true waiting position word held enabled none = tt
-word_no_help shape names false waiting position word held enabled none =
-    met_no_help shape (subcommand_met names waiting word) waiting position word held enabled none
+pub record Begins (words : List Text) : Type 0 where
+  pub command : Command
+  pub is : IsCommand command
+  pub rest : List Text
+  pub same : words ≡ command.name ∷ rest
 
-positional_no_help : (rules : List Rule) (found : Option Rule) (word : Text) (w : Walk) (held : Held) → StopsNotAtHelp w.stopped
-    → StopsNotAtHelp (to_positional rules found word w held).stopped
-positional_no_help rules None word w held before = before
-positional_no_help rules (Some rule) word w held before = tt
+module _ (word : Text) (rest : List Text) (taken : takes program (word ∷ rest) ≡ true) where
+  abbrev is_named : Command → Bool
+  is_named command = answers_to word (label_of (built_command command))
 
-step_no_help : (rules : List Rule) (word : Text) (w : Walk) (held : Held) (step : Step) → StopsNotAtHelp w.stopped → IsNoHelpStep step
-    → StopsNotAtHelp (after_step rules word w held step).stopped
-step_no_help rules word w held (subcommand name) before is = is
-step_no_help rules word w held value before is = positional_no_help rules (arg_by_index rules w.position) word w held before
-step_no_help rules word w held _ before is = before
+  met_by : (found : Option Command) → find is_named commands ≡ found
+      → subcommand_met names idle word
+      ≡ option_map (λ label. label.0) (option_map label_of (option_or (option_map built_command found) (if bytes_eq (codes "help") word || false then Some (built_leaf help_shape) else None)))
+  met_by found is =
+      ap (option_map (λ label. label.0))
+      (sym (find-map (answers_to word) label_of (built program).subs)
+      ∙ ap (option_map label_of) (find-append (λ shape. answers_to word (label_of shape)) (map built_command commands) (built_leaf help_shape ∷ [])
+      ∙ ap (λ found. option_or found (if bytes_eq (codes "help") word || false then Some (built_leaf help_shape) else None))
+      (sym (find-map (λ shape. answers_to word (label_of shape)) built_command commands) ∙ ap (option_map built_command) is)))
 
-module _ (shape : Shape) (names : Names) (enabled : shape.disable_help_subcommand ≡ false) where
-  turn_no_help : (w : Walk) (word : Text) (stopped : Option (Text × List Text)) → w.stopped ≡ stopped → StopsNotAtHelp w.stopped
-      → turn_fault shape names w word ≡ [] → StopsNotAtHelp (walked_from shape.rules names stopped w word).stopped
-  turn_no_help w word (Some stop) is before none = let same : StopsNotAtHelp (Some stop) = subst StopsNotAtHelp is before in same
-  turn_no_help w word None is before none =
-      step_no_help shape.rules word w met.0 met.1 before
-      (word_no_help shape names w.is_trailing w.waiting w.position word w.held enabled
-      (first_is_empty (word_fault shape names w.is_trailing w.waiting word w.held) (step_fault shape w.position met.0 met.1) (going_has_none (is_some w.stopped) _ (ap is_some is) none)))
+  no_other : (is_help dashes : Bool) → find is_named commands ≡ None → (bytes_eq (codes "help") word || false) ≡ is_help → bytes_eq word (codes "--") ≡ dashes → ⊥
+  unfolding walk_passes
+  no_other true dashes none named is =
+      help_refused rest (subst (λ word. takes program (word ∷ rest) ≡ true) (sym ((bytes_eq-Decides (codes "help") word).0 (sym (or-false _) ∙ named))) taken)
+  no_other false true none named is =
+      dashes_refused rest (subst (λ word. takes program (word ∷ rest) ≡ true) ((bytes_eq-Decides word (codes "--")).0 is) taken)
+  no_other false false none named is =
+      let met : subcommand_met names idle word ≡ None = met_by None none
+      ∙ ap (λ named. option_map (λ (label : Text × List Text). label.0) (option_map label_of (if named then Some (built_leaf help_shape) else None))) named in
+      let passes : first_passes word None (bytes_eq word (codes "--")) ≡ true = subst (λ met. (other_passes top met word nothing_held
+      && step_passes top 1 (subcommand_or_other top.rules met idle 1 word nothing_held).0 (subcommand_or_other top.rules met idle 1 word nothing_held).1) ≡ true) met
+      (both (turn_passes top names (walk_from nothing_held) word) _ (walk_taken (word ∷ rest) taken)).0 in
+      true≢false (sym passes ∙ ap (first_passes word None) is ∙ word_refused word (long_of word) (short_of word) refl)
+
+  begins_with : Begins (word ∷ rest)
+  begins_with = by (find is_named commands) refl (if_found IsCommand is_named commands each_command)
     where
-      met : Held × Step
-      met = word_met shape.rules names w.is_trailing w.waiting w.position word w.held
+      by : (found : Option Command) → find is_named commands ≡ found → IfSome found (λ command. IsCommand command × (is_named command ≡ true)) → Begins (word ∷ rest)
+      by (Some command) is named =
+          record { command = command; is = named.0; rest = rest; same = ap (λ word. word ∷ rest) (sym ((bytes_eq-Decides command.name word).0 (sym (or-false _) ∙ named.1))) }
+      by None is named = absurd (no_other _ _ is refl refl)
 
-  walk_no_help : (words : List Text) (w : Walk) → StopsNotAtHelp w.stopped → walk_fault shape names w words ≡ []
-      → StopsNotAtHelp (fold (walked shape.rules names) w words).stopped
-  unfolding walk_fault walked
-  walk_no_help [] w before none = before
-  walk_no_help (word ∷ words) w before none =
-      walk_no_help words (walked shape.rules names w word) (turn_no_help w word w.stopped refl before (first_is_empty _ _ none)) (last_is_empty _ _ none)
+pub begins : (words : List Text) → takes program words ≡ true → Begins words
+unfolding clap_on_literals
+begins [] taken = absurd (true≢false (sym taken))
+begins (word ∷ rest) taken = begins_with word rest taken
 
--- ---- what the subcommand asks for
+-- ---- what a command's words ask for
 
--- the subcommand that is found, if there is one, asks for something where it has no fault
-abbrev AsksSomething : List Text → Option Shape → Type 0
-AsksSomething rest found =
-    option_map_or (λ shape. level_fault shape [] nothing_held rest false []) found [] ≡ [] → IsSome (option_map (λ s. rows_at s rest) found)
-    → IsSome (option_and_then (λ found. request_in found.0 found.1) (option_map (λ s. rows_at s rest) found))
+-- the argument takes the text
+abbrev Accepts : Argument → Text → Type 0
+Accepts one text = accepts false (parser one.value) text ≡ true
 
-found_asks : (name : Text) (rest : List Text) (left : List Command) → IsNoHelp name → AllByRecursion IsCommand left
-    → AsksSomething rest (find (λ s. answers_to name (label_of s)) (leaves left))
-found_asks name rest [] other each = by (bytes_eq (codes "help") name) (turned name (codes "help") false other)
-  where
-    by : (named : Bool) → named ≡ false → AsksSomething rest (if named || false then Some (built_leaf help_shape) else None)
-    by true is = absurd (true≢false is)
-    by false is = λ no_fault some. some
-found_asks name rest (command ∷ left) other (one, others) = by (bytes_eq command.name name) (found_asks name rest left other others)
-  where
-    by : (named : Bool) → AsksSomething rest (find (λ s. answers_to name (label_of s)) (leaves left))
-        → AsksSomething rest (if named || false then Some (built_shape command.name command.arguments) else find (λ s. answers_to name (label_of s)) (leaves left))
-    by true later = λ no_fault some.
-        subst IsSome (sym (one.request (rows_after (built_rules command.arguments 1) [] rest)))
-        (words_ask command.name command.arguments command.asks one.sound rest no_fault)
-    by false later = later
+pub default_is_accepted : (form : Form) (value : Value) → (is_empty (defaults_of form) || list_all (accepts false (parser value)) (defaults_of form)) ≡ true
+    → OfDefault (λ text. accepts false (parser value) text ≡ true) form
+default_is_accepted (WithDefault text) value passes = (both (accepts false (parser value) text) true passes).0
+default_is_accepted _ value passes = tt
 
-stop_asks : (stop : Option (Text × List Text)) → StopsNotAtHelp stop → entered_fault (built program) stop ≡ [] → IsSome (entered (built program) stop)
-    → IsSome (option_and_then (λ found. request_in found.0 found.1) (entered (built program) stop))
-stop_asks None before no_fault e = e
-stop_asks (Some p) before no_fault e = found_asks p.0 p.1 commands before each_command no_fault e
+some_request : (left : List Argument) (asks : Asks left) (rows : List Row) → AllByRecursion (IsRead Accepts rows) left → IsSome (asked_in left asks rows)
+some_request [] request rows all = refl
+some_request (one ∷ rest) asks rows (is, others) =
+    subst IsSome (sym (ap (option_and_then (λ given. asked_in rest (asks given) rows)) is.value)) (some_request rest (asks (value_of one.value is.text)) rows others)
+
+module _ (arguments : List Argument) (looked_up : AreLookedUp arguments) where
+  abbrev Kept : List Row → Type 0
+  Kept rows = AllByRecursion (IsReadable Accepts arguments) rows
+
+  use_keeps : (at : Numbered) → IsLookedUp arguments at → Keeps false Kept (built_rule at)
+  use_keeps at is values rows none kept = by values (sym (use_same false (built_rule at) values rows) ∙ ap is_none none)
+    where
+      by : (values : List Text) → use_passes false (built_rule at) values rows ≡ true → Kept (used (built_rule at) values rows)
+      by [] passes = absurd (true≢false (sym passes))
+      by (text ∷ []) passes =
+          let fits = both (not (has_row at.1.id rows) || false) (accepts false (parser at.1.value) text && true) passes in
+          subst Kept (sym (used_behind at text rows (is_false (has_row at.1.id rows) (sym (or-false _) ∙ fits.0))))
+          (All-push (IsReadable Accepts arguments) rows _ kept
+          (readable Accepts (λ one text is. is) arguments at is text CommandLine (both (accepts false (parser at.1.value) text) true fits.1).0))
+      by (text ∷ other ∷ more) passes =
+          absurd (omega (arith, leb-true (suc (suc (length more))) 1 (both (nat_le (suc (suc (length more))) 1) _ (both (nat_le 1 (suc (suc (length more)))) _ passes).1).0))
+
+  each_keeps : AllByRecursion (Keeps false Kept) (built_rules arguments)
+  each_keeps =
+      All-append (Keeps false Kept) (map built_rule (numbered arguments 1)) (help ∷ [])
+      (All-map (Keeps false Kept) built_rule (numbered arguments 1)
+      (All-weaker (IsLookedUp arguments) (λ at. Keeps false Kept (built_rule at)) use_keeps (numbered arguments 1) looked_up.each))
+      (λ values rows none kept. kept, tt)
+
+  pub words_ask : (name : Text) (asks : Asks arguments) (words : List Text) → level_fault (built_shape name arguments) [] nothing_held words false [] ≡ []
+      → IsSome (asked_in arguments asks (rows_after (built_rules arguments) [] words))
+  words_ask name asks words none =
+      some_request arguments asks (finished (built_rules arguments) end)
+      (of_numbered (IsRead Accepts (finished (built_rules arguments) end)) arguments 1
+      (All-weaker (IsLookedUp arguments) (λ at. IsRead Accepts (finished (built_rules arguments) end) at.1)
+      (λ at is. is_read Accepts (λ one text is. is) arguments looked_up (settled (built_rules arguments) end).rows all checked at is
+      (λ none. default_is_accepted at.1.form at.1.value is.default))
+      (numbered arguments 1) looked_up.each))
+    where
+      end : Held
+      end = (walk (built_rules arguments) [] nothing_held words).held
+
+      all : Kept (settled (built_rules arguments) end).rows
+      all = level_keeps (built_shape name arguments) looked_up.checked Kept each_keeps words none tt
+
+      checked : check_fault (built_shape name arguments) (finished (built_rules arguments) end) false ≡ []
+      checked =
+          last_is_empty (defaults_fault (settled (built_rules arguments) end).rows (built_rules arguments)) _
+          (last_is_empty (settle_fault (built_rules arguments) false end) _
+          (last_is_empty (walk_fault (built_shape name arguments) [] (walk_from nothing_held) words) _ none))
+
+pub taken_passes : (words : List Text) → IsTaken words → takes program words ≡ true
+taken_passes words taken = sym (program_agrees words) ∙ ap is_none taken
 
 pub taken_words_ask : TakenWordsAsk
 taken_words_ask words taken =
-    stop_asks stop (walk_no_help top (names_of (built program)) refl words (walk_from nothing_held) tt (first_is_empty walk_faults _ taken))
-    (first_is_empty (entered_fault (built program) stop) _ (last_is_empty walk_faults _ taken))
-    (level_is_entered top (names_of (built program)) nothing_held words (is_some (entered (built program) stop)) (entered_fault (built program) stop) refl taken)
+    let begun = begins words (taken_passes words taken) in
+    subst (λ words. IsSome (request_of words)) (sym begun.same)
+    (subst IsSome (sym (ap request_of_subcommand (found_below begun.command begun.is begun.rest)
+    ∙ asked_below begun.command begun.is begun.rest (rows_after (built_command begun.command).rules [] begun.rest)))
+    (words_ask begun.command.arguments (all_looked_up begun.command.arguments begun.is.sound) begun.command.name begun.command.asks begun.rest
+    (sym (faults_below begun.command begun.is begun.rest) ∙ ap (fault_of program) (sym begun.same) ∙ taken)))
+
+pub taken_words_are_a_commands : TakenWordsAreACommands
+taken_words_are_a_commands words = ((taken_passes words, λ passes. no_kind (fault_of program words) (program_agrees words ∙ passes)), (to, from))
   where
-    top : Shape
-    top = (built program).top
+    to : IsTaken words → AreACommands words
+    to taken =
+        let begun = begins words (taken_passes words taken) in
+        record {
+          command = begun.command;
+          among = begun.is.among;
+          rest = begun.rest;
+          begin = begun.same;
+          taken = sym (fault_alone begun.command begun.is begun.rest) ∙ ap (fault_of program) (sym begun.same) ∙ taken;
+          asked = ap request_of begun.same ∙ ap request_of_subcommand (found_below begun.command begun.is begun.rest) ∙ asked_below begun.command begun.is begun.rest _
+              ∙ ap (λ (app : App). asked_of begun.command (rows_after app.top.rules (names_of app) begun.rest)) (sym begun.is.alone_is);
+        }
 
-    stop : Option (Text × List Text)
-    stop = (walk (built program).top.rules (names_of (built program)) nothing_held words).stopped
-
-    walk_faults : Kinds
-    walk_faults = walk_fault (built program).top (names_of (built program)) (walk_from nothing_held) words
+    from : AreACommands words → IsTaken words
+    from are = ap (fault_of program) are.begin ∙ fault_alone are.command (is_among are.command are.among) are.rest ∙ are.taken
 
 it_is_some : (asked : Option Request) → IsSome asked → None ≡ asked → ⊥
 it_is_some None some none = true≢false (sym some)

@@ -1,187 +1,194 @@
--- The walk of `clap` over a command's operands and options: what is held after each, and what is found at the end.
-use Rattle.dcv_command.proofs.Common.{◌≡◌, ◌<◌, refl, sym, ap, ◌∙◌, subst, Bool, true, false, ℕ, List, [], ◌∷◌, ◌++◌, Option, None, Some}
-use Rattle.dcv_command.proofs.Common.{arith, find, fold, not, ◌&&◌, ◌||◌, ◌+◌, if◌then◌else◌, AllByRecursion, option_map_or, bytes_eq}
-use Rattle.dcv_command.proofs.Common.{append-nil, or-true, bytes_eq-Decides, true≢false, Row, Rule, Shape, Text, reading_of, explicit_source}
-use Rattle.dcv_command.proofs.Common.{settle_fault, step_fault, or_else, is_given, settle_passes, step_passes, accepts, Held, Step}
-use Rattle.dcv_command.proofs.Common.{after_flag, after_step, arg_by_index, has_row, idle, long_or_other, nothing_held, option, settled}
-use Rattle.dcv_command.proofs.Common.{to_positional, trailing, with_default, IsOption, has_name, Argument, value_of}
+-- The walk of `clap` over a command's words, word by word: what is held after each operand and option, and what is asked for at the end.
+use Rattle.dcv_command.proofs.Common.{◌≡◌, refl, ap, ◌∙◌, List, ℕ, [], ◌∷◌, None, Some, fold, false, bytes_eq, Kinds, Shape, Text, fault_of, program}
+use Rattle.dcv_command.proofs.Common.{or_else, Held, Waiting, Walk, finished, idle, long_of, nothing_held, after_step, plain_word, settled, short_of}
+use Rattle.dcv_command.proofs.Common.{subcommand_met, walk, walk_from, check_fault, settle_fault, step_fault, turn_fault, asked_of}
+use Rattle.dcv_command.proofs.Common.{request_of_subcommand, request_in, Command, ◌<◌, sym, Bool, true, ◌++◌, Option, map, arith, ◌&&◌, ◌+◌}
+use Rattle.dcv_command.proofs.Common.{if◌then◌else◌, option_map_or, bytes_eq-Decides, Row, Rule, accepts, has_row, Step, after_flag, long_or_other}
+use Rattle.dcv_command.proofs.Common.{option, to_positional, trailing, IsOption, has_name, Argument}
 use Rattle.std.proofs.Common.{ap₂, min}
 use Rattle.std.specs.Prelude.{nat_lt}
-use Rattle.std.proofs.Math.Bool.{and-false, or-false}
+use Rattle.std.proofs.Math.Bool.{and-false}
 use Rattle.std.proofs.Math.Nat.{min-eq_left}
-use Rattle.std.proofs.lemmas.List.Folds.{list_any-append}
-use Rattle.clap.specs.Faults.{flag_word_fault, long_fault, positional_fault, stray_fault, use_fault}
+use Rattle.std.proofs.lemmas.List.{map-append}
+use Rattle.clap.specs.Walk.{walked, is_pending, long_met, option_word, pushed, used_by_id}
+use Rattle.clap.specs.Faults.{defaults_fault, walk_fault, flag_word_fault, long_fault, positional_fault, stray_fault, use_fault}
 use Rattle.clap.specs.Lexer.{usize_max}
-use Rattle.clap.specs.Takes.{flag_word_passes, long_passes, positional_passes, use_passes}
 use Rattle.clap.specs.Values.{refused_kind}
-use Rattle.clap.specs.Walk.{at_row, default_rows, is_pending, long_met, more_values, option_word, pushed, reading_by, used_by_id, walked, with_values}
 use Rattle.clap.specs.declared.error.kind.ErrorKind.TheVariants.{ArgumentConflict}
-use Rattle.clap.specs.declared.parser.matches.ValueSource.TheVariants.{CommandLine, DefaultValue}
-use Rattle.dcv_command.specs.Listed.{Values}
-use Rattle.dcv_command.proofs.Arguments.{IsLookedUp, built_rule, built_rules, built_shape, flag, parser}
-use Rattle.dcv_command.proofs.Plain.{HasNoDash, going}
-use Rattle.dcv_command.proofs.Rows.{AreReadable, IsReadable, new_row}
-use Rattle.dcv_command.proofs.Runs.{Goes, holding, plain_goes, waiting_for}
-use Rattle.dcv_command.proofs.Uses.{Says, as_written, own_says}
+use Rattle.clap.proofs.WalkLemmas.{list_any-map}
+use Rattle.dcv_command.specs.Listed.{AskFor, Values, word_of}
+use Rattle.dcv_command.specs.Request.{Request}
+use Rattle.dcv_command.proofs.Commands.{IsCommand, asked_below, built_command, faults_below, found_below}
+use Rattle.dcv_command.proofs.NumberTexts.{HasNoDash}
+use Rattle.dcv_command.proofs.TakenWords.{taken_passes}
+use Rattle.dcv_command.proofs.Arguments.{IsLookedUp, Numbered, built_rule, built_rules, built_shape, flag, parser}
+use Rattle.dcv_command.proofs.Rows.{given_row, used_behind}
 
--- ---- lists
+-- a walk that is not stopped, and reads flags
+abbrev pub going : Held → Waiting → ℕ → Walk
+going held waiting position = record { held = held; waiting = waiting; position = position; is_trailing = false; stopped = None }
 
-all_more : {X : Type 0} (P : X → Type 0) (xs : List X) (x : X) → AllByRecursion P xs → P x → AllByRecursion P (xs ++ x ∷ [])
-all_more P [] x all is = (is, tt)
-all_more P (one ∷ xs) x (first, others) is = (first, all_more P xs x others is)
+pub record Goes (shape : Shape) (w : Walk) (word : Text) (next : Walk) : Type 0 where
+  pub no_fault : turn_fault shape [] w word ≡ []
+  pub goes : walked shape.rules [] w word ≡ next
 
-or_turns : (one other : Bool) → (one || (other || false)) ≡ (other || one)
-or_turns true other = sym (or-true other)
-or_turns false other = or-false other ∙ sym (or-false other)
+no_flag : (word : Text) → HasNoDash word → (bytes_eq word (45 ∷ 45 ∷ []) ≡ false) × (long_of word ≡ None) × (short_of word ≡ None)
+no_flag [] none = absurd none
+no_flag (first ∷ rest) none = (rw none refl, rw none refl, rw none refl)
 
--- ---- rows
+none_met : (waiting : Waiting) (word : Text) → subcommand_met [] waiting word ≡ None
+none_met idle word = refl
+none_met _ word = refl
 
-at_row_behind : (id : Text) (change : Row → List Row) (missing rows : List Row) → has_row id rows ≡ false → at_row id change missing rows ≡ rows ++ missing
-at_row_behind id change missing [] none = refl
-at_row_behind id change missing (row ∷ rows) none = by (bytes_eq row.id id) none (at_row_behind id change missing rows)
+-- a step over a word that does not begin with a dash
+pub plain_goes : (shape : Shape) (held : Held) (waiting : Waiting) (position : ℕ) (word : Text) (next : Walk) → HasNoDash word
+    → step_fault shape position (plain_word shape.rules waiting word held).0 (plain_word shape.rules waiting word held).1 ≡ []
+    → after_step shape.rules word (going held waiting position) (plain_word shape.rules waiting word held).0 (plain_word shape.rules waiting word held).1 ≡ next
+    → Goes shape (going held waiting position) word next
+unfolding walked
+plain_goes shape held waiting position word next none no_fault taken =
+    let flag = no_flag word none in
+    record { no_fault = rw (none_met waiting word, flag.0, flag.1, flag.2) no_fault; goes = rw (none_met waiting word, flag.0, flag.1, flag.2) taken }
+
+-- word by word from a walk to the end
+pub data Runs (shape : Shape) (end : Walk) : Walk → List Text → Type 0 where
+  at_end : Runs shape end end []
+  more : {w next : Walk} {word : Text} {words : List Text} → Goes shape w word next → Runs shape end next words → Runs shape end w (word ∷ words)
+
+run_ends : (shape : Shape) (end w : Walk) (words : List Text) → Runs shape end w words → fold (walked shape.rules []) w words ≡ end
+run_ends shape end w [] at_end = refl
+run_ends shape end w (word ∷ words) (more one rest) =
+    ap (λ there. fold (walked shape.rules []) there words) one.goes ∙ run_ends shape end _ words rest
+
+no_fault_on : (shape : Shape) (end w : Walk) (words : List Text) → Runs shape end w words → walk_fault shape [] w words ≡ []
+unfolding walk_fault
+no_fault_on shape end w [] at_end = refl
+no_fault_on shape end w (word ∷ words) (more one rest) =
+    ap (λ kinds. or_else kinds (walk_fault shape [] (walked shape.rules [] w word) words)) one.no_fault
+    ∙ ap (λ there. walk_fault shape [] there words) one.goes ∙ no_fault_on shape end _ words rest
+
+-- ---- what is asked for
+
+-- the faults after the walk
+abbrev pub faults_at_end : Shape → Held → Kinds
+faults_at_end shape held =
+    or_else (settle_fault shape.rules shape.args_override_self held)
+    (or_else (defaults_fault (settled shape.rules held).rows shape.rules) (check_fault shape (finished shape.rules held) false))
+
+-- a run without a fault at its end asks for what the rows ask for
+pub ask_for : (command : Command) → IsCommand command → (words : List Text) (end : Walk) (request : Request)
+    → Runs (built_command command) end (walk_from nothing_held) words → faults_at_end (built_command command) end.held ≡ []
+    → asked_of command (finished (built_command command).rules end.held) ≡ Some request → AskFor (command.name ∷ words) request
+ask_for command is words end request runs none asked =
+    record {
+      taken = taken;
+      passes = taken_passes (command.name ∷ words) taken;
+      asked = ap request_of_subcommand (found_below command is words)
+          ∙ ap (λ (w : Walk). request_in command.name (finished shape.rules w.held)) ended ∙ asked_below command is words (finished shape.rules end.held) ∙ asked;
+    }
   where
-    by : (same : Bool) → (same || has_row id rows) ≡ false → (has_row id rows ≡ false → at_row id change missing rows ≡ rows ++ missing)
-        → (if same then change row ++ rows else row ∷ at_row id change missing rows) ≡ row ∷ (rows ++ missing)
-    by true none later = absurd (true≢false none)
-    by false none later = ap (λ rest. row ∷ rest) (later none)
+    shape : Shape
+    shape = built_command command
 
-abbrev pub IsGivenRow : Row → Type 0
-IsGivenRow row = explicit_source row.source ≡ true
+    ended : walk shape.rules [] nothing_held words ≡ end
+    ended = run_ends shape end (walk_from nothing_held) words runs
 
-pub rows_are_given : (id : Text) (rows : List Row) → AllByRecursion IsGivenRow rows → has_row id rows ≡ true → is_given id rows ≡ true
-rows_are_given id [] all has = has
-rows_are_given id (row ∷ rows) (one, others) has = by (bytes_eq row.id id) has (rows_are_given id rows others)
-  where
-    by : (same : Bool) → (same || has_row id rows) ≡ true → (has_row id rows ≡ true → is_given id rows ≡ true)
-        → option_map_or (λ (one : Row). explicit_source one.source) (if same then Some row else find (λ one. bytes_eq one.id id) rows) false ≡ true
-    by true has later = one
-    by false has later = later has
+    taken : fault_of program (command.name ∷ words) ≡ []
+    taken =
+        faults_below command is words
+        ∙ ap (λ kinds. or_else kinds (faults_at_end shape (walk shape.rules [] nothing_held words).held)) (no_fault_on shape end (walk_from nothing_held) words runs)
+        ∙ ap (λ (w : Walk). faults_at_end shape w.held) ended ∙ none
 
-given_before : (id : Text) (rows more : List Row) → is_given id rows ≡ true → is_given id (rows ++ more) ≡ true
-given_before id [] more given = absurd (true≢false (sym given))
-given_before id (row ∷ rows) more given = by (bytes_eq row.id id) given (given_before id rows more)
-  where
-    by : (same : Bool) → option_map_or (λ (one : Row). explicit_source one.source) (if same then Some row else find (λ one. bytes_eq one.id id) rows) false ≡ true
-        → (is_given id rows ≡ true → is_given id (rows ++ more) ≡ true)
-        → option_map_or (λ (one : Row). explicit_source one.source) (if same then Some row else find (λ one. bytes_eq one.id id) (rows ++ more)) false ≡ true
-    by true given later = given
-    by false given later = later given
+-- ---- operands and options
 
-given_with_default : (id : Text) (rule : Rule) (rows : List Row) → is_given id rows ≡ true → is_given id (with_default rows rule) ≡ true
-given_with_default id rule rows given = by (has_row rule.id rows) refl rule.defaults
-  where
-    by : (has : Bool) → has_row rule.id rows ≡ has → (values : List Text)
-        → is_given id (if has then rows else default_rows rule.id (reading_by rule) values rows) ≡ true
-    by true is values = given
-    by false is [] = given
-    by false is (value ∷ values) =
-        let more = new_row rule.id (reading_by rule) DefaultValue (value ∷ values) ∷ [] in
-        subst (λ rows. is_given id rows ≡ true) (sym (at_row_behind rule.id (more_values DefaultValue (value ∷ values)) more rows is)) (given_before id rows more given)
-
-pub given_with_defaults : (id : Text) (rules : List Rule) (rows : List Row) → is_given id rows ≡ true → is_given id (fold with_default rows rules) ≡ true
-given_with_defaults id [] rows given = given
-given_with_defaults id (rule ∷ rules) rows given = given_with_defaults id rules (with_default rows rule) (given_with_default id rule rows given)
-
--- ---- what is held after some arguments
-
--- the text is one of the argument's, and stands for what is given for it
-abbrev pub Means : Values → Argument → Text → Type 0
-Means values one text = (accepts false (parser one.value) text ≡ true) × (value_of one.value text ≡ values one)
+abbrev pub given_by : Values → Argument → Row
+given_by values one = given_row one (word_of one.value (values one))
 
 abbrev pub at_rest : List Row → Held
 at_rest rows = record { rows = rows; pending = None; skip = 0 }
 
+-- an argument with its value is pending
+abbrev pub holding : List Row → Text → Text → Held
+holding rows id text = record { rows = rows; pending = Some (id, text ∷ []); skip = 0 }
+
+abbrev pub waiting_for : List Row → Text → Held
+waiting_for rows id = record { rows = rows; pending = Some (id, []); skip = 0 }
+
+-- these arguments have been met
 pub record Holds (arguments : List Argument) (values : Values) (held : Held) (done : List Argument) : Type 0 where
-  pub rows : List Row
-  pub settles : settled (built_rules arguments 1) held ≡ at_rest rows
-  pub no_fault : settle_fault (built_rules arguments 1) false held ≡ []
-  pub passes : settle_passes (built_rules arguments 1) false held ≡ true
-  pub readable : AreReadable (Says (Means values) arguments) rows
-  pub given : AllByRecursion IsGivenRow rows
-  pub has : (id : Text) → has_row id rows ≡ has_name id done
+  pub settles : settled (built_rules arguments) held ≡ at_rest (map (given_by values) done)
+  pub no_fault : settle_fault (built_rules arguments) false held ≡ []
 
-module _ (arguments : List Argument) (values : Values) where
+pub nothing_holds : (arguments : List Argument) (values : Values) → Holds arguments values nothing_held []
+nothing_holds arguments values = record { settles = refl; no_fault = refl }
+
+pub has_given_row : (values : Values) (id : Text) (done : List Argument) → has_row id (map (given_by values) done) ≡ has_name id done
+has_given_row values id done = sym (list_any-map (λ (row : Row). bytes_eq row.id id) (given_by values) done)
+
+module _ (arguments : List Argument) (values : Values) (held : Held) (done : List Argument) (before : Holds arguments values held done) (at : Numbered)
+    (is : IsLookedUp arguments at) where
   abbrev rules : List Rule
-  rules = built_rules arguments 1
+  rules = built_rules arguments
 
-  pub nothing_holds : Holds arguments values nothing_held []
-  nothing_holds = record { rows = []; settles = refl; no_fault = refl; passes = refl; readable = tt; given = tt; has = λ id. refl }
+  abbrev rows : List Row
+  rows = map (given_by values) done
 
-  module _ (held : Held) (done : List Argument) (before : Holds arguments values held done) (one : Argument) (is : IsLookedUp arguments one)
-      (fresh : has_name one.id done ≡ false) (text : Text) where
-    abbrev added : Row
-    added = new_row one.id (reading_of (parser one.value)) CommandLine (text ∷ [])
+  abbrev text : Text
+  text = word_of at.1.value (values at.1)
 
-    no_row : has_row one.id before.rows ≡ false
-    no_row = before.has one.id ∙ fresh
+  -- an argument more, whose value has been read
+  pub holds_one : has_name at.1.id done ≡ false → accepts false (parser at.1.value) text ≡ true
+      → Holds arguments values (holding rows at.1.id text) (done ++ at.1 ∷ [])
+  holds_one fresh fits =
+      let none : has_row at.1.id rows ≡ false = has_given_row values at.1.id done ∙ fresh in
+      record {
+        settles = ap (λ found. at_rest (used_by_id found (text ∷ []) rows)) is.by_id
+            ∙ ap at_rest (used_behind at text rows none ∙ sym (map-append (given_by values) done (at.1 ∷ [])));
+        no_fault = ap (λ found. option_map_or (λ rule. use_fault false rule (text ∷ []) rows) found []) is.by_id
+            ∙ ap₂ (λ has fits. or_else (if has && true then ArgumentConflict ∷ [] else []) (or_else (if fits then [] else refused_kind (parser at.1.value) ∷ []) []))
+            none fits;
+      }
 
-    -- an argument more, whose value has been read
-    pub holds_one : Means values one text → Holds arguments values (holding before.rows one.id text) (one ∷ done)
-    holds_one means =
+  module _ (name : Text) (no_dash : HasNoDash text) where
+    abbrev shape : Shape
+    shape = built_shape name arguments
+
+    -- its operand
+    pub operand_goes : (IsOption at.1.form → ⊥) → at.0 < 2000
+        → Goes shape (going held idle at.0) text (going (holding rows at.1.id text) idle (at.0 + 1))
+    operand_goes operand few =
+        let several = and-false (is_pending (built_rule at) held.pending) in
+        plain_goes shape held idle at.0 text (going (holding rows at.1.id text) idle (at.0 + 1)) no_dash
+        (ap (λ found. option_map_or (λ rule. positional_fault rules false rule held) found (stray_fault shape)) (is.by_index operand)
+        ∙ ap (λ several. if several then [] else settle_fault rules false held) several ∙ before.no_fault)
+        (ap (λ found. to_positional rules found text (going held idle at.0) held) (is.by_index operand)
+        ∙ ap (λ several. going (pushed at.1.id text (if several then held else settled rules held)) idle (min (at.0 + 1) usize_max)) several
+        ∙ ap (λ there. going (pushed at.1.id text there) idle (min (at.0 + 1) usize_max)) before.settles
+        ∙ ap (going (holding rows at.1.id text) idle) (min-eq_left (omega arith)))
+
+    abbrev flag_met : ℕ → Bool → Option (Text × Option Text) → Held × Step
+    flag_met place dashes long = if dashes then (held, trailing place) else long_or_other rules idle (flag at.1.id) long held
+
+    abbrev named_met : Option Rule → Held × Step
+    named_met found = after_flag rules idle (flag at.1.id) (long_met rules found None held).0 (long_met rules found None held).1
+
+    -- the flag of its option, and the word after that
+    pub flag_goes : (place : ℕ) → IsOption at.1.form → Goes shape (going held idle place) (flag at.1.id) (going (waiting_for rows at.1.id) (option at.1.id) place)
+    unfolding walked
+    flag_goes place is_option =
         record {
-          rows = before.rows ++ added ∷ [];
-          settles = ap (λ found. at_rest (used_by_id found (text ∷ []) before.rows)) is.by_id
-              ∙ ap (λ rows. at_rest (with_values one.id (reading_of (parser one.value)) CommandLine (text ∷ []) rows))
-              (at_row_behind one.id (λ _. []) [] before.rows no_row ∙ append-nil before.rows)
-              ∙ ap at_rest (at_row_behind one.id (more_values CommandLine (text ∷ [])) (added ∷ []) before.rows no_row);
-          no_fault = ap (λ found. option_map_or (λ rule. use_fault false rule (text ∷ []) before.rows) found []) is.by_id
-              ∙ ap₂ (λ has fits. or_else (if has && true then ArgumentConflict ∷ [] else []) (or_else (if fits then [] else refused_kind (parser one.value) ∷ []) []))
-              no_row means.0;
-          passes = ap (λ found. option_map_or (λ rule. use_passes false rule (text ∷ []) before.rows) found true) is.by_id
-              ∙ ap₂ (λ has fits. (not has || false) && (fits && true)) no_row means.0;
-          readable = all_more (IsReadable (Says (Means values) arguments)) before.rows added before.readable
-              (record { text = text; first = refl; as_written = as_written one.value; says = own_says (Means values) arguments one text is means });
-          given = all_more IsGivenRow before.rows added before.given refl;
-          has = λ id. list_any-append (λ row. bytes_eq row.id id) before.rows (added ∷ [])
-              ∙ ap (λ has. has || (bytes_eq one.id id || false)) (before.has id) ∙ or_turns (has_name id done) (bytes_eq one.id id);
+          no_fault = ap₂ (λ dashes long. or_else (if dashes then [] else flag_word_fault rules false long (flag at.1.id) held)
+              (step_fault shape place (flag_met place dashes long).0 (flag_met place dashes long).1)) is.no_dashes is.is_flag
+              ∙ ap (λ found. or_else (long_fault rules false found None held) (step_fault shape place (named_met found).0 (named_met found).1)) (is.by_long is_option)
+              ∙ ap (λ kinds. or_else kinds []) before.no_fault;
+          goes = ap₂ (λ dashes long. after_step rules (flag at.1.id) (going held idle place) (flag_met place dashes long).0 (flag_met place dashes long).1) is.no_dashes is.is_flag
+              ∙ ap (λ found. after_step rules (flag at.1.id) (going held idle place) (named_met found).0 (named_met found).1) (is.by_long is_option)
+              ∙ ap (λ there. going (record there { pending = Some (at.1.id, []) }) (option at.1.id) place) before.settles;
         }
 
-    module _ (name : Text) (place : ℕ) (no_dash : HasNoDash text) where
-      abbrev shape : Shape
-      shape = built_shape name arguments
-
-      abbrev flag_met : Bool → Option (Text × Option Text) → Held × Step
-      flag_met dashes long = if dashes then (held, trailing place) else long_or_other rules idle (flag one.id) long held
-
-      abbrev named_met : Option Rule → Held × Step
-      named_met found = after_flag rules idle (flag one.id) (long_met rules found None held).0 (long_met rules found None held).1
-
-      -- its operand
-      pub operand_goes : arg_by_index rules place ≡ Some (built_rule place one) → place < 2000
-          → Goes shape (going held idle place) text (going (holding before.rows one.id text) idle (place + 1))
-      operand_goes here few =
-          let several = and-false (is_pending (built_rule place one) held.pending) in
-          plain_goes shape held idle place text (going (holding before.rows one.id text) idle (place + 1)) no_dash
-          (ap (λ found. option_map_or (λ rule. positional_fault rules false rule held) found (stray_fault shape)) here
-          ∙ ap (λ several. if several then [] else settle_fault rules false held) several ∙ before.no_fault)
-          (ap (λ found. option_map_or (λ rule. positional_passes rules false rule held) found false) here
-          ∙ ap (λ several. several || settle_passes rules false held) several ∙ before.passes)
-          (ap (λ found. to_positional rules found text (going held idle place) held) here
-          ∙ ap (λ several. going (pushed one.id text (if several then held else settled rules held)) idle (min (place + 1) usize_max)) several
-          ∙ ap (λ there. going (pushed one.id text there) idle (min (place + 1) usize_max)) before.settles
-          ∙ ap (going (holding before.rows one.id text) idle) (min-eq_left (omega arith)))
-
-      -- the flag of its option, and the word after that
-      pub flag_goes : IsOption one.form → Goes shape (going held idle place) (flag one.id) (going (waiting_for before.rows one.id) (option one.id) place)
-      unfolding walked
-      flag_goes is_option =
-          record {
-            no_fault = ap₂ (λ dashes long. or_else (if dashes then [] else flag_word_fault rules false long (flag one.id) held)
-                (step_fault shape place (flag_met dashes long).0 (flag_met dashes long).1)) is.no_dashes is.is_flag
-                ∙ ap (λ found. or_else (long_fault rules false found None held) (step_fault shape place (named_met found).0 (named_met found).1)) (is.by_long is_option)
-                ∙ ap (λ kinds. or_else kinds []) before.no_fault;
-            passes = ap₂ (λ dashes long. (dashes || flag_word_passes rules false long (flag one.id) held)
-                && step_passes shape place (flag_met dashes long).0 (flag_met dashes long).1) is.no_dashes is.is_flag
-                ∙ ap (λ found. long_passes rules false found None held && step_passes shape place (named_met found).0 (named_met found).1) (is.by_long is_option)
-                ∙ ap (λ passes. passes && true) before.passes;
-            goes = ap₂ (λ dashes long. after_step rules (flag one.id) (going held idle place) (flag_met dashes long).0 (flag_met dashes long).1) is.no_dashes is.is_flag
-                ∙ ap (λ found. after_step rules (flag one.id) (going held idle place) (named_met found).0 (named_met found).1) (is.by_long is_option)
-                ∙ ap (λ there. going (record there { pending = Some (one.id, []) }) (option one.id) place) before.settles;
-          }
-
-      pub value_goes : Goes shape (going (waiting_for before.rows one.id) (option one.id) place) text (going (holding before.rows one.id text) idle place)
-      value_goes =
-          plain_goes shape (waiting_for before.rows one.id) (option one.id) place text (going (holding before.rows one.id text) idle place) no_dash refl refl
-          (ap (λ found. going (option_word found one.id text (waiting_for before.rows one.id)).0 (option_word found one.id text (waiting_for before.rows one.id)).1 place) is.by_id
-          ∙ ap (λ same. going (holding before.rows one.id text) (if nat_lt (if same then 1 else 0) 1 then option one.id else idle) place)
-          ((bytes_eq-Decides one.id one.id).1 refl))
+    pub value_goes : (place : ℕ) → Goes shape (going (waiting_for rows at.1.id) (option at.1.id) place) text (going (holding rows at.1.id text) idle place)
+    value_goes place =
+        plain_goes shape (waiting_for rows at.1.id) (option at.1.id) place text (going (holding rows at.1.id text) idle place) no_dash refl
+        (ap (λ found. going (option_word found at.1.id text (waiting_for rows at.1.id)).0 (option_word found at.1.id text (waiting_for rows at.1.id)).1 place) is.by_id
+        ∙ ap (λ same. going (holding rows at.1.id text) (if nat_lt (if same then 1 else 0) 1 then option at.1.id else idle) place)
+        ((bytes_eq-Decides at.1.id at.1.id).1 refl))

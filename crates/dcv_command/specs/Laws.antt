@@ -1,9 +1,25 @@
 -- The laws that `src/laws.rt` proves.
-use Rattle.std.specs.Prelude.{List, ◌∷◌, ◌++◌, Contains, IsSome}
-use Rattle.clap.specs.Words.{Text}
+use Rattle.std.specs.Prelude.{◌≡◌, ◌↔◌, List, [], ◌∷◌, ◌++◌, Contains, IsSome, true}
+use Rattle.clap.specs.Words.{Text, fault_of, matches_of, takes}
 use Rattle.dcv_command.specs.Listed.{Values, AreGiven, AskFor, asked_with, operand_words, option_words}
-use Rattle.dcv_command.specs.Request.{IsTaken, request_of}
+use Rattle.dcv_command.specs.Program.{alone, program}
+use Rattle.dcv_command.specs.Request.{IsTaken, asked_of, request_of}
 use Rattle.dcv_command.specs.Table.{Argument, Command, commands}
+
+-- the words are a command's name, and words in which `clap` finds no fault for this command alone; and they ask for what the command asks for by
+-- the matches that `clap` has of these
+pub record AreACommands (words : List Text) : Type 0 where
+  pub command : Command
+  pub among : Contains commands command
+  pub rest : List Text
+  pub begin : words ≡ command.name ∷ rest
+  pub taken : fault_of (alone command) rest ≡ []
+  pub asked : request_of words ≡ asked_of command (matches_of (alone command) rest)
+
+-- the words that are taken: `clap` finds no fault in them for the program where they pass its test, and only there, and where they are a
+-- command's, and only there
+abbrev pub TakenWordsAreACommands : Type 0
+TakenWordsAreACommands = (words : List Text) → (IsTaken words ↔ (takes program words ≡ true)) × (IsTaken words ↔ AreACommands words)
 
 -- words in which `clap` finds no fault ask for something
 abbrev pub TakenWordsAsk : Type 0

@@ -3,11 +3,12 @@
 --     shape_of name arguments
 --                         a command, as a subcommand
 --     program             what `clap` is given
+--     alone command       a command by itself, for the words after its name
 use Rattle.std.specs.Prelude.{true, false, List, [], ◌∷◌, map, Some, codes}
 use Rattle.clap.specs.Words.{App, Shape, Rule, Text, new_rule}
 use Rattle.clap.specs.Simple.{new_shape}
 use Rattle.clap.specs.declared.builder.value_parser.ValueParser.TheVariants.{Unsigned}
-use Rattle.dcv_command.specs.Table.{Argument, Form, Operand, Required, WithDefault, Value, FileName, Number, commands}
+use Rattle.dcv_command.specs.Table.{Argument, Command, Form, Operand, Required, WithDefault, Value, FileName, Number, commands}
 
 abbrev pub with_parser : Value → Rule → Rule
 with_parser FileName rule = rule
@@ -36,3 +37,6 @@ program = record {
   top = record bare_app.top { is_leaf = false };
   subs = map (λ command. shape_of command.name command.arguments) commands;
 }
+
+abbrev pub alone : Command → App
+alone command = record { top = record (shape_of command.name command.arguments) { no_binary_name = true }; subs = [] }

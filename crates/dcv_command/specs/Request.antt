@@ -9,7 +9,7 @@
 --     request_in name rows    what the command of this name asks for
 --     request_of words        what the words ask for
 --     IsTaken words           `clap` finds no fault in the words
-use Rattle.std.specs.Prelude.{◌≡◌, ℕ, ◌≤◌, List, [], ◌∷◌, Option, None, Some, if◌then◌else◌, option_and_then}
+use Rattle.std.specs.Prelude.{◌≡◌, ℕ, ◌≤◌, List, [], ◌∷◌, Option, None, Some, if◌then◌else◌, find, option_and_then}
 use Rattle.std.specs.Str.{bytes_eq}
 use Rattle.std.specs.Str.Parse.{digits_value, without_leading_plus}
 use Rattle.clap.specs.Words.{Row, Text, first_of, one_of, subcommand_of, fault_of}
@@ -77,13 +77,8 @@ asked_in (argument ∷ rest) asks rows = option_and_then (λ value. asked_in res
 abbrev pub asked_of : Command → List Row → Option Request
 asked_of command = asked_in command.arguments command.asks
 
-abbrev pub request_among : List Command → Text → List Row → Option Request
-request_among [] name rows = None
-request_among (command ∷ rest) name rows =
-    if bytes_eq name command.name then asked_of command rows else request_among rest name rows
-
 abbrev pub request_in : Text → List Row → Option Request
-request_in = request_among commands
+request_in name rows = option_and_then (λ command. asked_of command rows) (find (λ command. bytes_eq name command.name) commands)
 
 -- of the subcommand that the words name, with its matches
 abbrev pub request_of_subcommand : Option (Text × List Row) → Option Request

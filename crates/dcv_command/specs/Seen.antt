@@ -2,7 +2,8 @@
 --     argument_seen, shape_seen   an argument of the table, and a command as `clap` is told it
 --     asked_by request            what the request asks for
 --     IsUsageOnlyWhere P fault    the words are refused as no command's only where P holds
-use Rattle.std.specs.Prelude.{map}
+--     HasText fault               what is written then is not empty
+use Rattle.std.specs.Prelude.{◌≢◌, [], map, string_bytes}
 use Rattle.clap.specs.Words.{Shape}
 use Rattle.dcv_command.specs.declared.program.Argument.{Argument as CodeArgument}
 use Rattle.dcv_command.specs.declared.program.Entry.{Entry}
@@ -45,3 +46,7 @@ asked_by (CodeSweep seed count) = Sweep seed count
 abbrev pub IsUsageOnlyWhere : Type 0 → WordsFault → Type 0
 IsUsageOnlyWhere P (Usage text) = P
 IsUsageOnlyWhere P Memory = Unit {0}
+
+abbrev pub HasText : WordsFault → Type 0
+HasText (Usage text) = string_bytes text ≢ []
+HasText Memory = Unit {0}

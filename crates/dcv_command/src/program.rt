@@ -92,205 +92,85 @@ pub(crate) struct Argument<'a> {
 pub(crate) enum Form<'a> {
     Operand,
     Required,
-    WithDefault { text: &'a str },
+    WithDefault(&'a str),
 }
 
-/// What is given for an argument.
+/// What is given for an argument: the name of a file, or a number from the least to the most.
 #[derive(Clone, Copy)]
 pub(crate) enum Value {
     FileName,
-    Number { least: u32, most: u32 },
+    Number(u32, u32),
 }
 
-// An operand, the name of a file.
-macro_rules! file_operand {
-    ($id:expr, $value_name:expr, $help:expr) => {
+// An argument by its fields, in order.
+macro_rules! argument {
+    ($id:literal, $form:expr, $value:expr, $value_name:literal, $help:literal) => {
         Argument {
             id: $id,
-            form: Form::Operand,
-            value: Value::FileName,
+            form: $form,
+            value: $value,
             value_name: $value_name,
             help: $help,
         }
     };
 }
 
-// The limit on the states of a step.
-const STATES: Argument<'static> = Argument {
-    id: "states",
-    form: Form::WithDefault { text: "30000" },
-    value: Value::Number {
-        least: 1,
-        most: MOST_STATES,
-    },
-    value_name: "N",
-    help: "The most states that a step may have, from 1 to 32000",
-};
+// A command in each row: its name, what `--help` says of it, and its arguments.
+macro_rules! entries {
+    ($($name:literal $about:literal $arguments:expr;)*) => {
+        [$(Entry { name: $name, about: $about, arguments: &$arguments }),*]
+    };
+}
 
-// The limit on the diagram nodes of a step.
-const NODES: Argument<'static> = Argument {
-    id: "nodes",
-    form: Form::WithDefault { text: "1000000" },
-    value: Value::Number {
-        least: 1,
-        most: MOST_NODES,
-    },
-    value_name: "N",
-    help: "The most diagram nodes that a step may have, from 1 to 1000000",
-};
+// The formula file of a command, and the limits on the states and the diagram nodes of a step.
+const FORMULA_FILE: Argument<'static> =
+    argument! { "file", Form::Operand, Value::FileName, "FILE", "The formula file" };
+
+const STATES: Argument<'static> =
+    argument! { "states", Form::WithDefault("30000"), Value::Number(1, MOST_STATES), "N", "The most states that a step may have, from 1 to 32000" };
+
+const NODES: Argument<'static> =
+    argument! { "nodes", Form::WithDefault("1000000"), Value::Number(1, MOST_NODES), "N", "The most diagram nodes that a step may have, from 1 to 1000000" };
 
 // Of a command over a formula file.
-const OVER_A_FORMULA: [Argument<'static>; 3] = [
-    file_operand!("file", "FILE", "The formula file"),
-    STATES,
-    NODES,
-];
+const OVER_A_FORMULA: [Argument<'static>; 3] = [FORMULA_FILE, STATES, NODES];
 
 // Of a command over an observer's text and a trace.
 const OVER_A_TRACE: [Argument<'static>; 2] = [
-    file_operand!("observer", "OBS", "The file with the observer's text"),
-    file_operand!(
-        "trace",
-        "TRACE",
-        "The trace: a line for each instant, with a digit 0 or 1 for each variable, or - where there is none"
-    ),
+    argument! { "observer", Form::Operand, Value::FileName, "OBS", "The file with the observer's text" },
+    argument! { "trace", Form::Operand, Value::FileName, "TRACE",
+        "The trace: a line for each instant, with a digit 0 or 1 for each variable, or - where there is none" },
 ];
 
-static COMMANDS: [Entry<'static>; 13] = [
-    Entry {
-        name: "check",
-        about: "Writes the verdict, with a shortest counterexample and a shortest example",
-        arguments: &OVER_A_FORMULA,
-    },
-    Entry {
-        name: "automaton",
-        about: "Writes the minimal automaton, with words that show that it is minimal",
-        arguments: &OVER_A_FORMULA,
-    },
-    Entry {
-        name: "lustre",
-        about: "Writes an observer in a flat subset of Lustre, which tells at each instant whether the behaviour so far satisfies the formula",
-        arguments: &OVER_A_FORMULA,
-    },
-    Entry {
-        name: "c",
-        about: "Writes such an observer in a flat subset of C",
-        arguments: &OVER_A_FORMULA,
-    },
-    Entry {
-        name: "all",
-        about: "Writes the verdict, the automaton and both observers, each after a line that names it",
-        arguments: &OVER_A_FORMULA,
-    },
-    Entry {
-        name: "certify",
-        about: "Tells whether the words in an automaton's text show that it is minimal, and if not, of which state or two states they do not",
-        arguments: &[file_operand!(
-            "automaton",
-            "AUTO",
-            "The file with the automaton's text, as the command automaton writes it"
-        )],
-    },
-    Entry {
-        name: "convert",
-        about: "Writes an automaton's text in the version that is asked for: version 2 says of each step of the formula how many states and \
-nodes it had, and version 1 does not",
-        arguments: &[
-            file_operand!(
-                "automaton",
-                "AUTO",
-                "The file with the automaton's text, in either version"
-            ),
-            Argument {
-                id: "to",
-                form: Form::Required,
-                value: Value::Number {
-                    least: 1,
-                    most: MOST_VERSION,
-                },
-                value_name: "N",
-                help: "The version, 1 or 2",
-            },
-        ],
-    },
-    Entry {
-        name: "implies",
-        about: "Tells whether each behaviour that satisfies the formula of A satisfies that of B too, with a shortest one that does not",
-        arguments: &[
-            file_operand!("first", "A", "The formula file that is to imply the other"),
-            file_operand!(
-                "second",
-                "B",
-                "The formula file that is to be implied, with the same variables in the same order"
-            ),
-            STATES,
-            NODES,
-        ],
-    },
-    Entry {
-        name: "stuck",
-        about: "Tells whether a system that has kept to the formula at each instant so far can always go on, with a shortest behaviour after \
-which it cannot",
-        arguments: &OVER_A_FORMULA,
-    },
-    Entry {
-        name: "synth",
-        about: "Writes a controller in a flat subset of C, whose outputs keep to the formula whatever its inputs are, or else moves of the \
-inputs that beat every controller",
-        arguments: &[
-            file_operand!("file", "FILE", "The formula file"),
-            Argument {
-                id: "inputs",
-                form: Form::Required,
-                value: Value::Number {
-                    least: 0,
-                    most: MOST_INPUTS,
-                },
-                value_name: "N",
-                help: "How many of the declared variables, from the first on, are inputs, from 0 to 16; the others, at most 8, are outputs",
-            },
-            STATES,
-            NODES,
-        ],
-    },
-    Entry {
-        name: "replay-lustre",
-        about: "Writes what an observer, as the command lustre writes it, answers at each instant of a trace",
-        arguments: &OVER_A_TRACE,
-    },
-    Entry {
-        name: "replay-c",
-        about: "Writes what an observer, as the command c writes it, answers at each instant of a trace",
-        arguments: &OVER_A_TRACE,
-    },
-    Entry {
-        name: "sweep",
-        about: "Draws formulas over x, y and z, and writes how many are valid, how many satisfiable, how many are over the limits of 30000 \
-states and 1000000 nodes, and how many states the minimal automata of the others have together",
-        arguments: &[
-            Argument {
-                id: "seed",
-                form: Form::Operand,
-                value: Value::Number {
-                    least: 0,
-                    most: MOST_SEED,
-                },
-                value_name: "SEED",
-                help: "The number that the drawing begins from, up to 2147483647",
-            },
-            Argument {
-                id: "count",
-                form: Form::Operand,
-                value: Value::Number {
-                    least: 1,
-                    most: MOST_COUNT,
-                },
-                value_name: "COUNT",
-                help: "How many formulas are drawn, from 1 to 1000",
-            },
-        ],
-    },
-];
+static COMMANDS: [Entry<'static>; 13] = entries! {
+    "check" "Writes the verdict, with a shortest counterexample and a shortest example" OVER_A_FORMULA;
+    "automaton" "Writes the minimal automaton, with words that show that it is minimal" OVER_A_FORMULA;
+    "lustre" "Writes an observer in a flat subset of Lustre, which tells at each instant whether the behaviour so far satisfies the formula" OVER_A_FORMULA;
+    "c" "Writes such an observer in a flat subset of C" OVER_A_FORMULA;
+    "all" "Writes the verdict, the automaton and both observers, each after a line that names it" OVER_A_FORMULA;
+    "certify" "Tells whether the words in an automaton's text show that it is minimal, and if not, of which state or two states they do not"
+        [argument! { "automaton", Form::Operand, Value::FileName, "AUTO", "The file with the automaton's text, as the command automaton writes it" }];
+    "convert" "Writes an automaton's text in the version that is asked for: version 2 says of each step of the formula how many states and \
+nodes it had, and version 1 does not"
+        [argument! { "automaton", Form::Operand, Value::FileName, "AUTO", "The file with the automaton's text, in either version" },
+        argument! { "to", Form::Required, Value::Number(1, MOST_VERSION), "N", "The version, 1 or 2" }];
+    "implies" "Tells whether each behaviour that satisfies the formula of A satisfies that of B too, with a shortest one that does not"
+        [argument! { "first", Form::Operand, Value::FileName, "A", "The formula file that is to imply the other" },
+        argument! { "second", Form::Operand, Value::FileName, "B", "The formula file that is to be implied, with the same variables in the same order" },
+        STATES, NODES];
+    "stuck" "Tells whether a system that has kept to the formula at each instant so far can always go on, with a shortest behaviour after \
+which it cannot" OVER_A_FORMULA;
+    "synth" "Writes a controller in a flat subset of C, whose outputs keep to the formula whatever its inputs are, or else moves of the \
+inputs that beat every controller"
+        [FORMULA_FILE, argument! { "inputs", Form::Required, Value::Number(0, MOST_INPUTS), "N",
+            "How many of the declared variables, from the first on, are inputs, from 0 to 16; the others, at most 8, are outputs" }, STATES, NODES];
+    "replay-lustre" "Writes what an observer, as the command lustre writes it, answers at each instant of a trace" OVER_A_TRACE;
+    "replay-c" "Writes what an observer, as the command c writes it, answers at each instant of a trace" OVER_A_TRACE;
+    "sweep" "Draws formulas over x, y and z, and writes how many are valid, how many satisfiable, how many are over the limits of 30000 \
+states and 1000000 nodes, and how many states the minimal automata of the others have together"
+        [argument! { "seed", Form::Operand, Value::Number(0, MOST_SEED), "SEED", "The number that the drawing begins from, up to 2147483647" },
+        argument! { "count", Form::Operand, Value::Number(1, MOST_COUNT), "COUNT", "How many formulas are drawn, from 1 to 1000" }];
+};
 
 // The table.
 fn commands() -> &'static [Entry<'static>]
@@ -303,16 +183,20 @@ fn commands() -> &'static [Entry<'static>]
 pub(crate) fn program<'a>(alloc: Global) -> Result<Command<'a>, AllocError>
     ensures { IfOk result (λ command. app_of command ≡ the_program) }
 {
-    let bare = bare_program(alloc)?;
-    with_entries(alloc, bare, commands())
+    let mut command = bare_program(alloc)?;
+    for entry in commands() {
+        command = command.subcommand(subcommand(alloc, entry)?)?;
+    }
+    Ok(command)
 }
 
 // The command without its subcommands, of which one is required.
 fn bare_program<'a>(alloc: Global) -> Result<Command<'a>, AllocError>
     ensures { IfOk result (λ command. app_of command ≡ bare_app) }
 {
+    let named = Command::new(alloc, "dcvalid").bin_name("dcvalid")?;
     Ok(
-        named(alloc)?
+        named
             .about(ABOUT)
             .after_help(EXAMPLE_AND_STATUS)
             .no_binary_name(true)
@@ -320,52 +204,16 @@ fn bare_program<'a>(alloc: Global) -> Result<Command<'a>, AllocError>
     )
 }
 
-// A command with no words yet, which usage calls by its name.
-fn named<'a>(alloc: Global) -> Result<Command<'a>, AllocError>
-    ensures app { IfOk result (λ command. app_of command ≡ new_app (codes "dcvalid")) }
-    ensures local { IfOk result (λ command. (fields_of command).has_globals ≡ false) }
-{
-    Command::new(alloc, "dcvalid").bin_name("dcvalid")
-}
-
-// The command with these subcommands more.
-fn with_entries<'a>(
-    alloc: Global,
-    command: Command<'a>,
-    entries: &[Entry<'a>],
-) -> Result<Command<'a>, AllocError>
-    ensures { IfOk result (λ more. app_of more ≡ fold (λ app entry. with_subcommand app (shape_seen entry)) (app_of command.entry) entries.now) }
-{
-    let mut more = command;
-    for entry in entries {
-        more = more.subcommand(subcommand(alloc, entry)?)?;
-    }
-    Ok(more)
-}
-
 // The subcommand of an entry.
 fn subcommand<'a>(alloc: Global, entry: &Entry<'a>) -> Result<Command<'a>, AllocError>
     ensures app { IfOk result (λ command. app_of command ≡ record { top = shape_seen entry.now; subs = [] }) }
     ensures local { IfOk result (λ command. (fields_of command).has_globals ≡ false) }
 {
-    let bare = Command::new(alloc, entry.name).about(entry.about);
-    with_arguments(alloc, bare, entry.arguments)
-}
-
-// The command with these arguments more.
-fn with_arguments<'a>(
-    alloc: Global,
-    command: Command<'a>,
-    arguments: &[Argument<'a>],
-) -> Result<Command<'a>, AllocError>
-    ensures app { IfOk result (λ more. app_of more ≡ fold (λ app argument. with_rule app (rule_of (argument_seen argument))) (app_of command.entry) arguments.now) }
-    ensures local { IfOk result (λ more. (fields_of more).has_globals ≡ (fields_of command.entry).has_globals) }
-{
-    let mut more = command;
-    for argument in arguments {
-        more = more.arg(arg_of(alloc, argument))?;
+    let mut command = Command::new(alloc, entry.name).about(entry.about);
+    for argument in entry.arguments {
+        command = command.arg(arg_of(alloc, argument))?;
     }
-    Ok(more)
+    Ok(command)
 }
 
 // The argument, as `clap` is told it.
@@ -390,7 +238,7 @@ fn with_value<'a>(arg: Arg<'a>, value: Value) -> Arg<'a>
 {
     match value {
         Value::FileName => arg,
-        Value::Number { least, most } => {
+        Value::Number(least, most) => {
             arg.value_parser(ValueParser::unsigned(u64::from(least), u64::from(most)))
         }
     }
@@ -404,6 +252,6 @@ fn with_form<'a>(arg: Arg<'a>, id: &'a str, form: Form<'a>) -> Arg<'a>
     match form {
         Form::Operand => arg.required(true),
         Form::Required => arg.long(id).required(true),
-        Form::WithDefault { text } => arg.long(id).default_value(text),
+        Form::WithDefault(text) => arg.long(id).default_value(text),
     }
 }

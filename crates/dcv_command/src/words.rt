@@ -1,21 +1,20 @@
 //! What the words of the command line ask for.
-ghost use Rattle.std.specs.Prelude.{◌≡◌, ◌≢◌, true, [], map, option_map, IfOk, IfErr, Some};
+ghost use Rattle.std.specs.Prelude.{◌≡◌, ◌≢◌, true, [], map, option_map, IfOk, IfErr, Some, string_bytes};
 ghost use Rattle.clap.specs.Words.{fault_of, first_of, found_of, rows_of, subcommand_of, subcommand_rows_of, takes};
 ghost use Rattle.dcv_command.specs.Program.{program as the_program};
 ghost use Rattle.dcv_command.specs.Request.{IsInRange, IsTaken, request_of, request_of_subcommand, number_in as number_in_rows};
 ghost use Rattle.dcv_command.specs.Request.{asked_of, request_in as request_among};
 ghost use Rattle.dcv_command.specs.Table.{report, certify, convert, implies, stuck, synth, replay, sweep, version_numbered as the_version};
 ghost use Rattle.dcv_command.specs.declared.words.WordsFault.TheVariants.{Memory};
-ghost use Rattle.dcv_command.specs.Seen.{asked_by, IsUsageOnlyWhere};
+ghost use Rattle.dcv_command.specs.Seen.{asked_by, HasText, IsUsageOnlyWhere};
 
 use crate::program::{MOST_COUNT, MOST_INPUTS, MOST_SEED, MOST_VERSION, program};
-use clap::ArgMatches;
 use clap::error::ErrorKind;
+use clap::{ArgMatches, Error};
 use dcv_explore::Limits;
 use dcv_language::{Kind, MOST_NODES, MOST_STATES};
 use std::alloc::{AllocError, Global};
 use std::convert::AsStr;
-use std::fmt::Display;
 
 /// What the program is asked for.
 #[derive(Clone, Copy)]
@@ -95,6 +94,7 @@ pub fn read_words<'a, S: AsStr>(alloc: Global, words: &'a [S]) -> Result<Request
     ensures limits { IfOk result (λ request. IsInRange (asked_by request)) }
     ensures usage { IfErr result (IsUsageOnlyWhere (¬ IsTaken (map S.text words.entry.now))) }
     ensures passes { IfErr result (IsUsageOnlyWhere (¬ (takes the_program (map S.text words.entry.now) ≡ true))) }
+    ensures text { IfErr result HasText }
 {
     let matches = matches_of(alloc, words)?;
     match request_in(&matches) {
@@ -107,22 +107,28 @@ pub fn read_words<'a, S: AsStr>(alloc: Global, words: &'a [S]) -> Result<Request
 fn matches_of<'a, S: AsStr>(alloc: Global, words: &'a [S]) -> Result<ArgMatches<'a>, WordsFault>
     ensures no_fault { IfOk result (λ matches. fault_of the_program (map S.text words.entry.now) ≡ []) }
     ensures subcommand { IfOk result (λ matches. subcommand_rows_of matches ≡ subcommand_of the_program (map S.text words.entry.now)) }
-    ensures usage { IfErr result (IsUsageOnlyWhere (fault_of the_program (map S.text words.entry.now) ≢ [])) }
-    ensures passes { IfErr result (IsUsageOnlyWhere (¬ (takes the_program (map S.text words.entry.now) ≡ true))) }
+    ensures usage { IfErr result (IsUsageOnlyWhere (¬ IsTaken (map S.text words.entry.now))) }
+    ensures text { IfErr result HasText }
 {
     let command = program(alloc)?;
     match command.try_get_matches_from(words) {
         Ok(matches) => Ok(matches),
         Err(error) if error.kind() == ErrorKind::OutOfMemory => Err(WordsFault::Memory),
-        Err(error) => Err(usage(alloc, &error)),
+        Err(error) => Err(WordsFault::Usage {
+            text: text_of(alloc, &error)?,
+        }),
     }
 }
 
-// The words are refused with this text.
-fn usage<T: Display>(alloc: Global, text: &T) -> WordsFault {
-    match text.to_string(alloc) {
-        Ok(text) => WordsFault::Usage { text },
-        Err(_) => WordsFault::Memory,
+// The text with which the words are refused, or of the help that they ask for.
+fn text_of(alloc: Global, error: &Error) -> Result<String, AllocError>
+    ensures { IfOk result (λ text. string_bytes text ≢ []) }
+{
+    let text = error.to_string(alloc)?;
+    if text.is_empty() {
+        String::from_str(alloc, "error: these words are no command\n")
+    } else {
+        Ok(text)
     }
 }
 
