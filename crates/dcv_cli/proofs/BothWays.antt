@@ -1,10 +1,11 @@
 -- Formula files of which each implies the other mean the same.
-use Rattle.dcv_cli.proofs.Common.{◌≡◌, ℕ, List, length, Option, None, Some, refl, sym, ap, ◌∙◌, subst, IsSomeAnd, length-map, Word}
-use Rattle.dcv_cli.proofs.Common.{PlainFile, Name, models, Limits, IsIncluded, texts_of, SpellsOne, OverBudget, WithinBudget, limit_of}
+use Rattle.dcv_cli.proofs.Common.{◌≡◌, ℕ, List, length, Option, None, Some, refl, sym, ap, ◌∙◌, subst, IsSomeAnd, Word}
+use Rattle.dcv_cli.proofs.Common.{PlainFile, models, Limits, IsIncluded, texts_of, SpellsOne, OverBudget, WithinBudget, limit_of}
 use Rattle.dcv_cli.proofs.Common.{IsCompared, Undeclared, Declared, OverProduct, WithinProduct, compared, status_of_least, IsFormulaFile}
 use Rattle.dcv_cli.proofs.Common.{OnText, Refused, Read, OnHeld, Outcome, refused, is_answer, Refusal, Formula, Budget, Product}
 use Rattle.dcv_cli.proofs.Common.{Declarations, Which, Only, First, Second, Valid, NotValid}
 use Rattle.dcv_implies.specs.Laws.{IncludedBothWays}
+use Rattle.dcv_cli.proofs.Comparisons.{count_same}
 use Rattle.dcv_cli.proofs.FormulaFiles.{one_file}
 use Rattle.dcv_cli.specs.Comparison.{IsComparison}
 use Rattle.dcv_cli.specs.Laws.{Implied, ImpliesBothWays}
@@ -76,8 +77,7 @@ module _ (one_tree : SpellsOne) (both : IncludedBothWays) where
       let here = includes second first back in
       let file : here.other_file ≡ there.file = one_file one_tree first here.other_file there.file here.other_formula there.formula in
       let other : here.file ≡ there.other_file = one_file one_tree second here.file there.other_file here.formula there.other_formula in
-      let count : length there.other_file.variables ≡ length there.file.variables =
-      sym (length-map there.other_file.variables (λ (name : Name). name.text)) ∙ ap length (sym there.same) ∙ length-map there.file.variables (λ (name : Name). name.text) in
+      let count = count_same there.other_file.variables there.file.variables (sym there.same) in
       let moved : IsIncluded (length there.other_file.variables) (models there.other_file) (models there.file) =
       subst (λ (f : PlainFile). IsIncluded (length there.other_file.variables) (models there.other_file) (models f)) file
       (subst (λ (f : PlainFile). IsIncluded (length f.variables) (models f) (models here.other_file)) other here.included) in

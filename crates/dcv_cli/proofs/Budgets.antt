@@ -1,44 +1,48 @@
--- What `build` answers of a core is what is right for the steps of its file, and the verdict of its automaton is that of its words.
-use Rattle.dcv_cli.proofs.Common.{◌≡◌, ℕ, ◌<◌, ◌≤◌, Bool, List, length, map, Result, Ok, Err, sym, ap, ◌∙◌, subst, IfOk}
-use Rattle.dcv_cli.proofs.Common.{OnOk, slice_get, option_map, slice_get_within, Language, HaveSameBehaviours, PlainFile, models}
-use Rattle.dcv_cli.proofs.Common.{CoreTree, core_of_file, words_of, WordsAreModels, PlainStep, steps_of, TableAcceptsAsTheStates, RawValue}
+-- What is built of a core is what is right for the file that it is of.
+use Rattle.dcv_cli.proofs.Common.{◌≡◌, ℕ, ◌<◌, Bool, List, length, map, Result, Err, sym, ap, ◌∙◌, subst, arith}
+use Rattle.dcv_cli.proofs.Common.{slice_get, option_map, slice_get_within, HaveSameBehaviours, PlainFile, models}
+use Rattle.dcv_cli.proofs.Common.{CoreTree, core_of_file, words_of, WordsAreModels, steps_of, TableAcceptsAsTheStates, RawValue, Language}
 use Rattle.dcv_cli.proofs.Common.{IsRaw, raw_accepts, table_accepts, IsAuto, table_of_states, Limits, TooManyStates, TooManyNodes}
-use Rattle.dcv_cli.proofs.Common.{IsAutomatonOf, IsOver, IsWithinBudget, Refusal, IsBuilt, steps_of_file}
-use Rattle.dcv_cli.proofs.Common.{IsAtSomeStep, IsFaultOver}
+use Rattle.dcv_cli.proofs.Common.{IsAutomatonOf, IsOver, IsBuilt, steps_of_file, IsAtSomeStep, IsFaultOver, AreInRange, NamesAreShort}
+use Rattle.dcv_cli.proofs.Common.{StepsAreFew, AreNames, texts_of, Name, Built, IsRead}
 use Rattle.std.proofs.lemmas.Option.{slice_get-map}
 use Rattle.dcv_language.specs.Laws.{CanonicalForSameBehaviours}
-use Rattle.dcv_scope.specs.Laws.{HasNoBoundShift}
 use Rattle.dcv_core.specs.Steps.{PlainCore, without_core}
-use Rattle.dcv_dfa.specs.Auto.{count_of_nodes}
-use Rattle.dcv_explore.specs.Budget.{Kind}
 use Rattle.dcv_build.specs.Budget.{IsRawOf}
+use Rattle.dcv_explore.specs.Budget.{Kind}
 use Rattle.dcv_build.specs.Given.{IsCoreOf, IsCore}
-use Rattle.dcv_build.specs.declared.builder.Built.{Built}
 use Rattle.dcv_build.specs.declared.faults.BuildFault.{BuildFault}
 use Rattle.dcv_build.specs.declared.faults.BuildFault.TheVariants.{States as OverStates, Nodes as OverNodes, Memory as NoMemory}
+use Rattle.dcv_cli.specs.ReadFile.{CanBePrinted}
+use Rattle.dcv_cli.specs.declared.formula_file.FormulaFile.{FormulaFile}
+use Rattle.dcv_cli.proofs.StepCounts.{printable_counts}
+use Rattle.dcv_cli.proofs.VariableNames.{are_names, no_shift_is_bound}
 
--- ---- steps of a core, with and without their trees
+-- ---- faults of the builder
 
--- the place of a step that is over the limits is one of the core's
-pub over_is_there : (core : PlainCore) (tree : CoreTree) (limits : Limits) (kind : Kind) (step : ℕ) → IsCoreOf tree core
-    → IsOver (steps_of core.declared tree) limits kind step → step < length core.steps
-over_is_there core tree limits kind step is over = slice_get_within core.steps step (without_core over.step) (ap (λ steps. slice_get steps step) is
-    ∙ slice_get-map without_core (steps_of core.declared tree) step ∙ ap (option_map without_core) over.is_there)
+-- what it says of its faults, said of one, and of each tree that the core has the steps of
+module _ {T : Type 0} (core : PlainCore) (limits : Limits) (result : Result T BuildFault)
+    (states : (tree : CoreTree) (step limit : ℕ) → IsCoreOf tree core → result ≡ Err (OverStates step limit)
+    → (limit ≡ limits.states) × IsOver (steps_of core.declared tree) limits TooManyStates step)
+    (nodes : (tree : CoreTree) (step limit : ℕ) → IsCoreOf tree core → result ≡ Err (OverNodes step limit)
+    → (limit ≡ limits.nodes) × IsOver (steps_of core.declared tree) limits TooManyNodes step) where
+  pub fault_over : (fault : BuildFault) → result ≡ Err fault → (tree : CoreTree) → IsCoreOf tree core → IsFaultOver (steps_of core.declared tree) limits fault
+  fault_over (OverStates step limit) is tree of = states tree step limit of is
+  fault_over (OverNodes step limit) is tree of = nodes tree step limit of is
+  fault_over NoMemory is tree of = tt
 
--- what the builder says of its faults, said of one
-module _ {T : Type 0} (steps : List PlainStep) (limits : Limits) (result : Result T BuildFault)
-    (states : (step limit : ℕ) → result ≡ Err (OverStates step limit) → (limit ≡ limits.states) × IsOver steps limits TooManyStates step)
-    (nodes : (step limit : ℕ) → result ≡ Err (OverNodes step limit) → (limit ≡ limits.nodes) × IsOver steps limits TooManyNodes step) where
-  pub fault_over : (fault : BuildFault) → result ≡ Err fault → IsFaultOver steps limits fault
-  fault_over (OverStates step limit) is = states step limit is
-  fault_over (OverNodes step limit) is = nodes step limit is
-  fault_over NoMemory is = tt
+  -- the place of a step that is over the limits is one of the core's
+  pub at_some_step : (fault : BuildFault) → result ≡ Err fault → IsCore core → IsAtSomeStep core fault
+  at_some_step fault is of = by fault (fault_over fault is of.tree of.is)
+    where
+      there : (kind : Kind) (step : ℕ) → IsOver (steps_of core.declared of.tree) limits kind step → step < length core.steps
+      there kind step over = slice_get_within core.steps step (without_core over.step) (ap (λ steps. slice_get steps step) of.is
+          ∙ slice_get-map without_core (steps_of core.declared of.tree) step ∙ ap (option_map without_core) over.is_there)
 
-pub at_some_step : (core : PlainCore) (tree : CoreTree) (limits : Limits) → IsCoreOf tree core → (fault : BuildFault) → IsFaultOver (steps_of core.declared tree) limits fault
-    → IsAtSomeStep core fault
-at_some_step core tree limits is (OverStates step limit) over = over_is_there core tree limits TooManyStates step is over.1
-at_some_step core tree limits is (OverNodes step limit) over = over_is_there core tree limits TooManyNodes step is over.1
-at_some_step core tree limits is NoMemory over = tt
+      by : (fault : BuildFault) → IsFaultOver (steps_of core.declared of.tree) limits fault → IsAtSomeStep core fault
+      by (OverStates step limit) over = there TooManyStates step over.1
+      by (OverNodes step limit) over = there TooManyNodes step over.1
+      by NoMemory over = tt
 
 -- ---- verdicts
 
@@ -48,49 +52,50 @@ pub same_as_set : (accept : TableAcceptsAsTheStates) (auto : RawValue) → IsRaw
 same_as_set accept auto raw is k L of word b =
     sym (subst (λ k. HaveSameBehaviours k (table_accepts (table_of_states auto)) (raw_accepts auto)) of.slots (accept auto raw is.start) word b) ∙ of.canonical.exact word b
 
+-- ---- the steps of a core that has no tree yet, and its file's
+
+-- a list of steps that is that of a file
+pub is_core_of : (file : PlainFile) (core : PlainCore) → core.declared ≡ length file.variables → core.steps ≡ map without_core (steps_of_file file) → IsCoreOf (core_of_file file) core
+is_core_of file core declared steps = subst (λ k. core.steps ≡ map without_core (steps_of k (core_of_file file))) (sym declared) steps
+
 -- ---- what is said of a core, said of the file that it is of
 
-module _ (file : PlainFile) (core : PlainCore) (declared : core.declared ≡ length file.variables) (steps : core.steps ≡ map without_core (steps_of_file file)) where
-  core_of_the_file : IsCoreOf (core_of_file file) core
-  core_of_the_file = subst (λ k. core.steps ≡ map without_core (steps_of k (core_of_file file))) (sym declared) steps
+module _ {text : List ℕ} {file : PlainFile} {formula : FormulaFile} (is : IsRead text file formula) where
+  abbrev core : PlainCore
+  core = formula.core
 
-  pub is_core : IsCore core
-  is_core = record { tree = core_of_file file; is = core_of_the_file }
+  pub of_core : IsCoreOf (core_of_file file) core
+  of_core = is_core_of file core is.declared is.steps
 
-  pub within_in_file : (limits : Limits) → ((tree : CoreTree) → IsCoreOf tree core → IsWithinBudget (steps_of core.declared tree) limits)
-      → IsWithinBudget (steps_of_file file) limits
-  within_in_file limits within =
-      subst (λ k. IsWithinBudget (steps_of k (core_of_file file)) limits) declared (within (core_of_file file) core_of_the_file)
+  -- P of the number of variables and the tree
+  pub of_file : (P : ℕ → CoreTree → Type 0) → P core.declared (core_of_file file) → P (length file.variables) (core_of_file file)
+  of_file P of = subst (λ k. P k (core_of_file file)) is.declared of
 
-  pub raw_of_file : HasNoBoundShift file → (raw : RawValue) (complemented : Bool) → WordsAreModels
-      → ((tree : CoreTree) → IsCoreOf tree core → IsRawOf core.declared (words_of tree) raw complemented) → IsRawOf (length file.variables) (models file) raw complemented
-  raw_of_file unbound raw complemented models_are accepts =
-      let of_words = subst (λ k. IsRawOf k (words_of (core_of_file file)) raw complemented) declared (accepts (core_of_file file) core_of_the_file) in
-      record { slots = of_words.slots; accepts = λ word behaves. of_words.accepts word behaves ∙ models_are file word unbound behaves }
+  same_words : WordsAreModels → HaveSameBehaviours (length file.variables) (words_of (core_of_file file)) (models file)
+  same_words models_are word behaves = models_are file word (no_shift_is_bound file is.spelled.has_core) behaves
 
-  pub automaton_of_file : HasNoBoundShift file → (auto : RawValue) → WordsAreModels → CanonicalForSameBehaviours
-      → ((tree : CoreTree) → IsCoreOf tree core → IsAutomatonOf core.declared (words_of tree) auto) → IsAutomatonOf (length file.variables) (models file) auto
-  automaton_of_file unbound auto models_are move canonical =
-      let of_words = subst (λ k. IsAutomatonOf k (words_of (core_of_file file)) auto) declared (canonical (core_of_file file) core_of_the_file) in
+  pub raw_of_file : (raw : RawValue) (complemented : Bool) → WordsAreModels → IsRawOf core.declared (words_of (core_of_file file)) raw complemented
+      → IsRawOf (length file.variables) (models file) raw complemented
+  raw_of_file raw complemented models_are accepts =
+      let own = of_file (λ k tree. IsRawOf k (words_of tree) raw complemented) accepts in
+      record { slots = own.slots; accepts = λ word behaves. own.accepts word behaves ∙ same_words models_are word behaves }
+
+  pub automaton_of_file : (auto : RawValue) → WordsAreModels → CanonicalForSameBehaviours → IsAutomatonOf core.declared (words_of (core_of_file file)) auto
+      → IsAutomatonOf (length file.variables) (models file) auto
+  automaton_of_file auto models_are move canonical =
+      let own = of_file (λ k tree. IsAutomatonOf k (words_of tree) auto) canonical in
       record {
-        slots = of_words.slots;
-        access = of_words.access;
-        canonical =
-            move (length file.variables) (words_of (core_of_file file)) (models file) (table_of_states auto) of_words.access
-            (λ word behaves. models_are file word unbound behaves) of_words.canonical;
+        slots = own.slots;
+        access = own.access;
+        canonical = move (length file.variables) (words_of (core_of_file file)) (models file) (table_of_states auto) own.access (same_words models_are) own.canonical;
       }
 
-  pub built_of_file : HasNoBoundShift file → (limits : Limits) (auto : RawValue) → WordsAreModels → CanonicalForSameBehaviours
-      → ((tree : CoreTree) → IsCoreOf tree core → IsAutomatonOf core.declared (words_of tree) auto)
-      → ((tree : CoreTree) → IsCoreOf tree core → IsWithinBudget (steps_of core.declared tree) limits) → length auto.rows ≤ limits.states
-      → count_of_nodes auto ≤ limits.nodes → IsBuilt file limits auto
-  built_of_file unbound limits auto models_are move canonical within states nodes =
-      record { within = within_in_file limits within; automaton = automaton_of_file unbound auto models_are move canonical; states = states; nodes = nodes }
-
-  pub built_if_ok : HasNoBoundShift file → (limits : Limits) (result : Result Built Refusal) → WordsAreModels → CanonicalForSameBehaviours
-      → ((tree : CoreTree) → IsCoreOf tree core → IfOk result (λ built. IsAutomatonOf core.declared (words_of tree) built.auto))
-      → ((tree : CoreTree) → IsCoreOf tree core → OnOk result (IsWithinBudget (steps_of core.declared tree) limits))
-      → IfOk result (λ built. length built.auto.rows ≤ limits.states) → IfOk result (λ built. count_of_nodes built.auto ≤ limits.nodes)
-      → IfOk result (λ built. IsBuilt file limits built.auto)
-  built_if_ok unbound limits (Ok built) models_are move canonical within states nodes = built_of_file unbound limits built.auto models_are move canonical within states nodes
-  built_if_ok unbound limits (Err refusal) models_are move canonical within states nodes = tt
+  -- it is within what may be printed
+  pub printable : NamesAreShort → StepsAreFew → (limits : Limits) → AreInRange limits → (built : Built) → IsBuilt file limits built → CanBePrinted formula.names.items built
+  printable short few limits range built of = record {
+    are_names = subst (λ (names : List Name). AreNames (texts_of names)) (sym is.names) (are_names short text file is.spelled);
+    slots = ap length is.names ∙ sym of.automaton.slots;
+    states = omega (arith, of.states, range.few_states);
+    nodes = omega (arith, of.nodes, range.few_nodes);
+    counts = printable_counts few text file is.spelled limits range built.counts.items of.counts;
+  }

@@ -10,6 +10,7 @@ pub use Rattle.dcv_automaton_text.specs.Spelled.{end_lines, spelled_line, step_p
 pub use Rattle.dcv_automaton_text.specs.Versions.{first_version, second_version}
 pub use Rattle.dcv_build.specs.Budget.{IsAutomatonOf, IsOver, IsWithinBudget, row_at}
 pub use Rattle.dcv_build.specs.Counts.{AreCounts}
+pub use Rattle.dcv_build.specs.declared.builder.Built.{Built}
 pub use Rattle.dcv_build.specs.Laws.{MachineAcceptsStep, WithinExcludesOver}
 pub use Rattle.dcv_c.specs.Laws.{TextIsReadBack}
 pub use Rattle.dcv_c.specs.Layout.{text_of}
@@ -26,14 +27,13 @@ pub use Rattle.dcv_cli.specs.Certificate.{IsCertificate, answer_words, status_of
 pub use Rattle.dcv_cli.specs.Comparison.{Declared, IsCompared, IsDifference, OverProduct, Undeclared, WithinProduct, compared, comparison_text, have_same_texts}
 pub use Rattle.dcv_cli.specs.Conversion.{IsConverted, as_version}
 pub use Rattle.dcv_cli.specs.Ending.{EndsBy, HasInputCause, NoneRises, Tells}
-pub use Rattle.dcv_cli.specs.Expanded.{IsBuilt}
 pub use Rattle.dcv_cli.specs.FormulaFile.{Faulty, HasNoCore, IsFormulaFile, IsRefused, IsSentence, OnText, Read, Refused, TooLong}
-pub use Rattle.dcv_cli.specs.Held.{ForHeld, IsHeldText, IsTooLongText, OnHeld, Texts}
-pub use Rattle.dcv_cli.specs.Judged.{IsJudged, Reports}
+pub use Rattle.dcv_cli.specs.Held.{ForHeld, IsHeldSuch, IsHeldText, OnHeld, Texts}
 pub use Rattle.dcv_cli.specs.ObserverFile.{IsFaultIn, IsObserverText, IsRefusedObserver, OnObserver}
 pub use Rattle.dcv_cli.specs.Outcome.{IsExplained, Outcome, refused}
-pub use Rattle.dcv_cli.specs.Outside.{Outside, of_files, outside}
+pub use Rattle.dcv_cli.specs.Outside.{Outside, Stream, output_of, with_output}
 pub use Rattle.dcv_cli.specs.Performed.{Answers, LeavesFor, Performs, Takes, ending}
+pub use Rattle.dcv_cli.specs.ReadFile.{IsBuilt, IsRead, Reports}
 pub use Rattle.dcv_cli.specs.Refusal.{excess_word_of, is_of_text, is_open, is_read, message_of, most_automaton_bytes, most_bytes, most_observer_bytes, only, refusal_of_observer, refusal_of_reading, refusal_of_scope, status_of}
 pub use Rattle.dcv_cli.specs.Replayed.{IsReplay, fault_of_trace, message_of_trace, status_of_trace}
 pub use Rattle.dcv_cli.specs.Replaying.{FulfilsTrace, LeavesOfTrace, LeavesTrace, OfOpen, OfRead}
@@ -52,7 +52,6 @@ pub use Rattle.dcv_cli.specs.declared.faults.AutomatonFault.TheVariants.{Syntax}
 pub use Rattle.dcv_cli.specs.declared.faults.FormulaFault.TheVariants.{Declarations, Outputs}
 pub use Rattle.dcv_cli.specs.declared.faults.TraceFault.{TraceFault}
 pub use Rattle.dcv_cli.specs.declared.faults.TraceFault.TheVariants.{Line}
-pub use Rattle.dcv_cli.specs.declared.report.Judged.{Judged}
 pub use Rattle.dcv_cli.specs.declared.refusal.Refusal.{Refusal}
 pub use Rattle.dcv_cli.specs.declared.refusal.Refusal.TheVariants.{Budget, Formula, Memory, Open, Product, Trace, Write}
 pub use Rattle.dcv_cli.specs.declared.refused.Which.{Which}
@@ -139,7 +138,7 @@ pub use Rattle.std.proofs.lemmas.Bool.{cases_lt, false≢true}
 pub use Rattle.std.proofs.lemmas.Bool.Decides.{nat_tests}
 pub use Rattle.std.proofs.lemmas.List.{append-nil, length-map, length-take}
 pub use Rattle.std.proofs.lemmas.Option.{slice_get-get_or, slice_get_within}
-pub use Rattle.std.proofs.lemmas.Result.{IfOk-weaker, err_from_is_err_and}
+pub use Rattle.std.proofs.lemmas.Result.{err_from_is_err_and}
 pub use Rattle.std.proofs.lemmas.Slice.Eq.{bytes_eq-Decides}
 pub use Rattle.std.specs.Bool.{OnTrue}
 pub use Rattle.std.specs.Fmt.{decimal}

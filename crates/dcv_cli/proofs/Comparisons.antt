@@ -2,7 +2,7 @@
 use Rattle.dcv_cli.proofs.Common.{◌≡◌, ◌≢◌, ℕ, Bool, true, false, List, [], ◌∷◌, length, Option, None, Some, refl, sym, ap, ◌∙◌, subst}
 use Rattle.dcv_cli.proofs.Common.{codes, IsTrue, ◌↔◌, not, is_some, bytes_eq, bytes_eq-Decides, length-map, true≢false, Asks, Disk, held_of}
 use Rattle.dcv_cli.proofs.Common.{asks_in_turn, Puts, puts_both, Word, PlainFile, Name, models, line, Language, IsLeastOf, TooManyStates}
-use Rattle.dcv_cli.proofs.Common.{TooManyNodes, Limits, IsAutomatonOf, IsAuto, RawValue, raw_accepts, difference, letters_of, IsIncluded}
+use Rattle.dcv_cli.proofs.Common.{TooManyNodes, Limits, IsAutomatonOf, IsWithinBudget, Built, IsAuto, raw_accepts, difference, letters_of, IsIncluded}
 use Rattle.dcv_cli.proofs.Common.{TooMany, Least, NoneWhereIncluded, texts_of, OverBudget, WithinBudget, NamesFirstOver, steps_of_file}
 use Rattle.dcv_cli.proofs.Common.{comparison_text, compared, have_same_texts, OverProduct, WithinProduct, IsCompared, Undeclared, Declared}
 use Rattle.dcv_cli.proofs.Common.{IsBuilt, IsFormulaFile, OnText, Refused, Read as ReadFile, Texts, OnHeld, ForHeld, IsHeldText, Fulfils}
@@ -84,22 +84,22 @@ module _ (limits : Limits) (one other : PlainFile) where
   explains_first_over _ same is = absurd is
 
   -- the first is not, and the second is
-  pub explains_second_over : (refusal : Refusal) (auto : RawValue) → texts_of one.variables ≡ texts_of other.variables → IsBuilt one limits auto
+  pub explains_second_over : (refusal : Refusal) → texts_of one.variables ≡ texts_of other.variables → IsWithinBudget (steps_of_file one) limits
       → NamesFirstOver (steps_of_file other) limits refusal → IsExplained (IsCompared limits one other) Second refusal
-  explains_second_over (Budget over) auto same built is = Declared same (WithinBudget built.within (OverBudget over is refl))
-  explains_second_over Memory auto same built is = tt
-  explains_second_over _ auto same built is = absurd is
+  explains_second_over (Budget over) same within is = Declared same (WithinBudget within (OverBudget over is refl))
+  explains_second_over Memory same within is = tt
+  explains_second_over _ same within is = absurd is
 
-  module _ (move : AnswerOfAutomata) (none : NoneWhereIncluded) (first second : RawValue) (first_auto : IsAuto first) (second_auto : IsAuto second)
+  module _ (move : AnswerOfAutomata) (none : NoneWhereIncluded) (first second : Built) (first_auto : IsAuto first.auto) (second_auto : IsAuto second.auto)
       (same : texts_of one.variables ≡ texts_of other.variables) (of_one : IsBuilt one limits first) (of_other : IsBuilt other limits second) where
     -- what is answered of the automata is answered of the files
-    answer : (found : Answer) → IsAnswer limits first.arena.slots (raw_accepts first) (raw_accepts second) found → IsAnswer limits (length one.variables) (models one) (models other) found
+    answer : (found : Answer) → IsAnswer limits first.auto.arena.slots (raw_accepts first.auto) (raw_accepts second.auto) found → IsAnswer limits (length one.variables) (models one) (models other) found
     answer found is =
-        move limits (length one.variables) (models one) (models other) first second found first_auto second_auto of_one.automaton
-        (subst (λ k. IsAutomatonOf k (models other) second) (count_same other.variables one.variables (sym same)) of_other.automaton) is
+        move limits (length one.variables) (models one) (models other) first.auto second.auto found first_auto second_auto of_one.automaton
+        (subst (λ k. IsAutomatonOf k (models other) second.auto) (count_same other.variables one.variables (sym same)) of_other.automaton) is
 
-    pub compares : (least : Option Word) → IsProductWithin limits first.arena.slots (raw_accepts first) (raw_accepts second)
-        → IsLeastOf first.arena.slots (difference (raw_accepts first) (raw_accepts second)) least → IsCompared limits one other (compared least)
+    pub compares : (least : Option Word) → IsProductWithin limits first.auto.arena.slots (raw_accepts first.auto) (raw_accepts second.auto)
+        → IsLeastOf first.auto.arena.slots (difference (raw_accepts first.auto) (raw_accepts second.auto)) least → IsCompared limits one other (compared least)
     compares least within is =
         let found = answer (Least least) (within, is) in
         Declared same (WithinBudget of_one.within (WithinBudget of_other.within (WithinProduct found.0 (record {
@@ -110,8 +110,8 @@ module _ (limits : Limits) (one other : PlainFile) where
         }))))
 
     pub explains_product : (fault : OutsideFault)
-        → ((limit : ℕ) → fault ≡ outside.States limit → (limit ≡ limits.states) × IsProductOver limits first.arena.slots (raw_accepts first) (raw_accepts second) TooManyStates)
-        → ((limit : ℕ) → fault ≡ outside.Nodes limit → (limit ≡ limits.nodes) × IsProductOver limits first.arena.slots (raw_accepts first) (raw_accepts second) TooManyNodes)
+        → ((limit : ℕ) → fault ≡ outside.States limit → (limit ≡ limits.states) × IsProductOver limits first.auto.arena.slots (raw_accepts first.auto) (raw_accepts second.auto) TooManyStates)
+        → ((limit : ℕ) → fault ≡ outside.Nodes limit → (limit ≡ limits.nodes) × IsProductOver limits first.auto.arena.slots (raw_accepts first.auto) (raw_accepts second.auto) TooManyNodes)
         → IsExplained (IsCompared limits one other) Only (refusal_of_outside fault)
     explains_product (outside.States limit) states nodes =
         let over = states limit refl in
@@ -129,7 +129,7 @@ pub undeclared : (limits : Limits) (one other : PlainFile) → texts_of one.vari
 undeclared limits one other differ = Undeclared differ refl
 
 -- what is right where it is determined, is right for each
-pub on_true_each : (b : Bool) {X : Type 0} (P Q : X → Type 0) → ((x : X) → P x → OnTrue b (Q x)) → OnTrue b ((x : X) → P x → Q x)
+pub on_true_each : (b : Bool) {X Y : Type 0} (P : Y → X → Type 0) (Q : X → Type 0) → ((y : Y) (x : X) → P y x → OnTrue b (Q x)) → OnTrue b ((y : Y) (x : X) → P y x → Q x)
 on_true_each true P Q each = each
 on_true_each false P Q each = tt
 

@@ -1,11 +1,12 @@
 -- What is told on the messages.
 use Rattle.dcv_cli.proofs.Common.{ℕ, List, Option, Result, Ok, Err, length, sym, ◌∙◌, subst, arith, take-length, OnOk, OnErr, ⊤, true≢false}
-use Rattle.dcv_cli.proofs.Common.{RisesIf, Appends, AppendsPrefix, Failed, Tells}
+use Rattle.dcv_cli.proofs.Common.{RisesIf, Appends, AppendsStrictPrefix, strict_is_prefix, Failed, Tells}
 use Rattle.std.specs.Prelude.{is_err}
 
 -- a message that was written, or a front of it where a write failed
 pub tells : (message : List ℕ) (old new : Option (List ℕ)) (before after : ℕ) (result : Result ⊤ Failed) → OnOk result (Appends old new message)
-    → OnErr result (AppendsPrefix old new message) → RisesIf (is_err result) before after → Tells message old new before after
+    → OnErr result (AppendsStrictPrefix old new message) → RisesIf (is_err result) before after → Tells message old new before after
 tells message old new before after (Ok done) whole front count =
     record { front = (length message, omega arith, subst (λ (bytes : List ℕ). Appends old new bytes) (sym (take-length message)) whole); whole = λ none. whole }
-tells message old new before after (Err failed) whole front count = record { front = front; whole = λ none. absurd (true≢false (sym count.risen ∙ none)) }
+tells message old new before after (Err failed) whole front count =
+    record { front = strict_is_prefix old new message front; whole = λ none. absurd (true≢false (sym count.risen ∙ none)) }

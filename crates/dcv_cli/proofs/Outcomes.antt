@@ -1,17 +1,16 @@
 -- How each step of a command leads to a right outcome.
-use Rattle.dcv_cli.proofs.Common.{◌≡◌, ◌≢◌, ℕ, ◌≤◌, List, [], length, Option, Some, Result, Ok, Err, refl, ap, subst, OnTrue, Bool, true}
-use Rattle.dcv_cli.proofs.Common.{false, IfErr, IsTrue, is_none, if◌then◌else◌, Disk, PlainFile, models, Language, Verdict, Name, ReadFault}
+use Rattle.dcv_cli.proofs.Common.{◌≡◌, ◌≢◌, ℕ, ◌≤◌, List, [], length, Option, Some, Err, refl, ap, subst, OnTrue, Bool, true}
+use Rattle.dcv_cli.proofs.Common.{false, IsTrue, is_none, if◌then◌else◌, Disk, PlainFile, models, Language, Verdict, Name, ReadFault}
 use Rattle.dcv_cli.proofs.Common.{ReadMemory, fault_of_file, ScopeFault, ScopeMemory, Refusal, Budget, Memory, PlainStep, Limits}
-use Rattle.dcv_cli.proofs.Common.{IsAutomatonOf, ReportValue, Texts, OnHeld, ForHeld, IsHeldText, IsJudged, Reports, Judged, steps_of_file}
+use Rattle.dcv_cli.proofs.Common.{IsAutomatonOf, ReportValue, Texts, OnHeld, ForHeld, IsHeldText, IsHeldSuch, IsBuilt, Built, Reports, steps_of_file}
 use Rattle.dcv_cli.proofs.Common.{NamesFirstOver, IsBudgeted, OverBudget, WithinBudget, Says, IsReport, IsRefused, Faulty, HasNoCore}
-use Rattle.dcv_cli.proofs.Common.{IsSentence, IsFormulaFile, OnText, Refused, Read, Outcome, refused, IsExplained, most_bytes, status_of}
-use Rattle.dcv_cli.proofs.Common.{is_of_text, refusal_of_reading, refusal_of_scope, Which, Answers, only, verdict_text, Check, core_of_file}
+use Rattle.dcv_cli.proofs.Common.{IsSentence, IsFormulaFile, OnText, Refused, Read, Outcome, IsExplained, most_bytes, status_of}
+use Rattle.dcv_cli.proofs.Common.{is_of_text, refusal_of_reading, refusal_of_scope, Which, Answers, Stream, only, verdict_text, Check, core_of_file}
 use Rattle.dcv_cli.proofs.Common.{counts_within, Only, Kind as ReportKind, texts_of, Valid, NotValid, is_answer, is_determined}
 use Rattle.dcv_cli.proofs.Common.{status_of_verdict}
 use Rattle.dcv_sentence.specs.Faults.{IsFirstFault}
-use Rattle.dcv_cli.specs.Expanded.{IsRefusedFile}
-use Rattle.dcv_cli.specs.Judged.{IsDecided}
-use Rattle.dcv_cli.proofs.ThreeEnds.{on_true_weaker, explains_first, fulfils_first}
+use Rattle.dcv_cli.specs.ReadFile.{IsDecided}
+use Rattle.dcv_cli.proofs.ThreeEnds.{explains_first, fulfils_first}
 use Rattle.dcv_cli.proofs.ThreeEnds.{answers_only}
 
 -- ---- for a text
@@ -42,7 +41,7 @@ over_is_of_text steps limits Memory is = refl
 over_is_of_text steps limits _ is = absurd is
 
 pub answers_over : {limits : Limits} {RightFor : PlainFile → Outcome → Type 0} (file : PlainFile) (refusal : Refusal) → NamesFirstOver (steps_of_file file) limits refusal
-    → (written : Option (List ℕ)) (faults : ℕ) → Answers (IsBudgeted limits Only RightFor file) (Err (only refusal)) written faults written faults
+    → (out : Stream) → Answers (IsBudgeted limits Only RightFor file) (Err (only refusal)) out out
 answers_over {limits} {RightFor} file refusal is =
     answers_only (IsBudgeted limits Only RightFor file) refusal (over_is_of_text (steps_of_file file) limits refusal is) (explains_over limits Only RightFor file refusal is)
 
@@ -61,19 +60,19 @@ answers_verdict limits file report {verdict} same says decided =
       no_message = refl;
     })
 
--- what was judged, and the report on it
-pub answers_report : (kind : ReportKind) (limits : Limits) (file : PlainFile) (judged : Judged) (report : ReportValue) → IsJudged file limits judged
-    → ((k : ℕ) (L : Language) → IsAutomatonOf k L judged.auto → Reports kind k L (texts_of judged.names.items) judged.counts.items report)
+-- what was built, and the report on it
+pub answers_report : (kind : ReportKind) (limits : Limits) (file : PlainFile) (names : List Name) (built : Built) (report : ReportValue) → names ≡ file.variables → IsBuilt file limits built
+    → ((k : ℕ) (L : Language) → IsAutomatonOf k L built.auto → Reports kind k L (texts_of names) built.counts.items report)
     → IsBudgeted limits Only (IsReport kind limits) file (record { status = status_of_verdict report.verdict; out = report.text; err = [] })
-answers_report kind limits file judged report is reports =
+answers_report kind limits file names built report same is reports =
     let said = reports (length file.variables) (models file) is.automaton in
     WithinBudget is.within (record {
       verdict = report.verdict;
       is_verdict = said.verdict;
       status = refl;
-      counts = judged.counts.items;
+      counts = built.counts.items;
       are_counts = is.counts;
-      says = subst (λ (names : List Name). Says kind (length file.variables) (models file) (texts_of names) judged.counts.items report.verdict report.text) is.names said.says;
+      says = subst (λ (names : List Name). Says kind (length file.variables) (models file) (texts_of names) built.counts.items report.verdict report.text) same said.says;
       no_message = refl;
     })
 
@@ -87,21 +86,12 @@ answer_of_verdict verdict = by (is_none verdict.counterexample)
 
 -- ---- for a file
 
--- a refusal of a text that is held is one of the file
-pub refused_file : {T : Type 0} (told : Option Disk) (name text : List ℕ) (result : Result T Refusal) → IsHeldText told name text
-    → IfErr result (λ refusal. OnTrue (is_determined (status_of refusal)) (IsRefused text refusal))
-    → IfErr result (λ refusal. OnTrue (is_determined (status_of refusal)) (IsRefusedFile told name refusal))
-refused_file told name text (Ok value) there refused = tt
-refused_file told name text (Err refusal) there refused =
-    on_true_weaker (is_determined (status_of refusal)) (λ is. record { text = text; there = there; refused = is }) refused
-
 module _ (told : Option Disk) (name : List ℕ) (which : Which) where
   -- so it is right, whatever is right for a formula file
-  pub explains_file : (RightFor : Texts → PlainFile → Outcome → Type 0) (refusal : Refusal) → OnTrue (is_determined (status_of refusal)) (IsRefusedFile told name refusal)
+  pub explains_file : (RightFor : Texts → PlainFile → Outcome → Type 0) (refusal : Refusal) → OnTrue (is_determined (status_of refusal)) (IsHeldSuch told name (λ text. IsRefused text refusal))
       → IsExplained (λ outcome. ForHeld told (λ held. OnHeld (held 0) name (λ text. OnText text which (RightFor held)) outcome)) which refusal
   explains_file RightFor refusal refused_so =
-      explains_first told name (λ held text. OnText text which (RightFor held)) which refusal (λ text. IsRefused text refusal) (λ held text is. Refused refusal is refl)
-      (on_true_weaker (is_determined (status_of refusal)) (λ is. (is.text, is.there, is.refused)) refused_so)
+      explains_first told name (λ held text. OnText text which (RightFor held)) which refusal (λ text. IsRefused text refusal) (λ held text is. Refused refusal is refl) refused_so
 
   -- what is right for the formula file is right for the file of the name
   pub fulfils_file : (RightFor : Texts → PlainFile → Outcome → Type 0) (text : List ℕ) (file : PlainFile) (outcome : Outcome) → IsHeldText told name text → IsFormulaFile text file

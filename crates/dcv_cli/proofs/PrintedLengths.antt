@@ -1,29 +1,26 @@
 -- A printed text of an automaton is no longer than one that is read may be: a bound for the lines of each kind, times how many there are.
-use Rattle.dcv_cli.proofs.Common.{◌≡◌, ℕ, zero, suc, ◌+◌, ◌<◌, ◌≤◌, Bool, true, false, List, [], ◌∷◌, ◌++◌, Option, None, Some, length, map}
-use Rattle.dcv_cli.proofs.Common.{get_or, refl, sym, ap, ◌∙◌, subst, arith, codes, IfSome, flat_map, decimal, bytes_eq, length-map}
-use Rattle.dcv_cli.proofs.Common.{append-nil, bytes_eq-Decides, StepPart, AutomatonFile, IsPlainName, AreNames, most_steps, step_part}
-use Rattle.dcv_cli.proofs.Common.{end_lines, spelled_line, access_words_of, Language, Count, step_part_of, Word, most_states}
-use Rattle.dcv_cli.proofs.Common.{most_automaton_bytes}
+use Rattle.dcv_cli.proofs.Common.{◌≡◌, ℕ, suc, ◌+◌, ◌<◌, ◌≤◌, Bool, true, false, List, [], ◌∷◌, ◌++◌, Option, None, Some, length, map}
+use Rattle.dcv_cli.proofs.Common.{get_or, refl, ap, ◌∙◌, arith, codes, IfSome, flat_map, decimal, bytes_eq, length-map, bytes_eq-Decides}
+use Rattle.dcv_cli.proofs.Common.{StepPart, AutomatonFile, IsPlainName, AreNames, step_part, end_lines, spelled_line, access_words_of}
+use Rattle.dcv_cli.proofs.Common.{Language, Word, most_states, most_automaton_bytes}
 use Rattle.std.proofs.Common.{◌*◌, fold}
-use Rattle.std.specs.List.{All, enumerate_from, join_with_byte}
+use Rattle.std.specs.List.{All, join_with_byte}
 use Rattle.std.proofs.lemmas.Fmt.{length-decimal-le}
-use Rattle.std.proofs.lemmas.List.{length-append, append_assoc}
+use Rattle.std.proofs.lemmas.Grind.{flat_map-append}
+use Rattle.std.proofs.lemmas.List.{length-append}
 use Rattle.std.proofs.lemmas.List.Folds.{Any-from_list_any}
-use Rattle.std.proofs.lemmas.List.FromFn.{length-enumerate_from}
-use Rattle.std.specs.Cmp.{unsigned_Decides}
 use Rattle.dcv_word.specs.TraceLine.{trace_line, digit_of}
 use Rattle.dcv_automaton_text.specs.File.{NodeLine, StateLine, Access, EmptyAccess, StartAccess, AfterAccess}
 use Rattle.dcv_automaton_text.specs.File.{Suffix, EmptySuffix, ThenSuffix, SuffixLine, StepLine}
 use Rattle.dcv_automaton_text.specs.Form.{IsNumber, IsTarget, IsNodeLine, IsStateLine, IsAccess, IsSuffix, IsStepLine, IsStepPart}
-use Rattle.dcv_automaton_text.specs.Rules.{is_listed, keeps_how_access}
+use Rattle.dcv_automaton_text.specs.GoodFile.{IsGoodFile, IsGoodStepPart, IsHowAccess, IsHowSuffix}
+use Rattle.dcv_automaton_text.specs.Rules.{is_listed}
 use Rattle.dcv_automaton_text.specs.Spelled.{target_word, answer_word, name_words, node_words, state_words, access_words, suffix_words, step_words, steps_words, version_word, head_lines, lines_of, spelled}
-use Rattle.dcv_automaton_text.proofs.GoodFiles.{IsGoodFile, good_file}
-use Rattle.dcv_automaton_text.proofs.Kept.{AreKept}
+use Rattle.dcv_automaton_text.proofs.GoodFiles.{good_file}
 use Rattle.dcv_automaton_text.proofs.GoodTables.{table_has_the_files_states}
+use Rattle.dcv_automaton_text.proofs.InWords.{good_files_in_words}
 use Rattle.dcv_automaton_text.specs.Meaning.{suffix_word_of, suffix_words_of}
-use Rattle.dcv_language.specs.Certificate.{GrowsInTurn, IsCertificate}
 use Rattle.dcv_print.specs.Automaton.{IsAutomatonOf}
-use Rattle.dcv_automaton_read.specs.File.{step_line}
 use Rattle.dcv_print.proofs.SuffixCounts.{suffixes_are_few}
 use Rattle.dcv_language.specs.declared.child.Child.{Child}
 use Rattle.dcv_language.specs.declared.child.Child.TheVariants.{State, Node}
@@ -69,34 +66,21 @@ node_is_short line is short =
 state_is_short : (line : StateLine) → IsStateLine line → length (spelled_line (state_words line)) ≤ 30
 state_is_short line is = within (state_words line) 30 (omega arith) (omega (arith, number_is_short line.number is.number, answer_is_short line.accepting, target_is_short line.row is.row))
 
--- the letter of a line has this width
-abbrev HasWidth : ℕ → Access → Type 0
-HasWidth width EmptyAccess = Unit {0}
-HasWidth width (StartAccess letter) = length letter ≡ width
-HasWidth width (AfterAccess state letter) = length letter ≡ width
+module _ (file : AutomatonFile) (few : length file.names ≤ 16) (place number : ℕ) (is : IsNumber number) where
+  access_is_short : (access : Access) → IsAccess access → IsHowAccess file place access → length (spelled_line (access_words (record { number = number; access = access }))) ≤ 40
+  access_is_short EmptyAccess form how = within (access_words (record { number = number; access = EmptyAccess })) 40 (omega arith) (omega (arith, number_is_short number is))
+  access_is_short (StartAccess letter) form how =
+      within (access_words (record { number = number; access = StartAccess letter })) 40 (omega arith)
+      (omega (arith, number_is_short number is, letter_is_short letter (omega (arith, few, how))))
+  access_is_short (AfterAccess state letter) form how =
+      within (access_words (record { number = number; access = AfterAccess state letter })) 40 (omega arith)
+      (omega (arith, number_is_short number is, number_is_short state form, letter_is_short letter (omega (arith, few, how.width))))
 
-access_is_short : (width number : ℕ) (access : Access) → width ≤ 16 → IsNumber number → IsAccess access → HasWidth width access
-    → length (spelled_line (access_words (record { number = number; access = access }))) ≤ 40
-access_is_short width number EmptyAccess few is how has =
-    within (access_words (record { number = number; access = EmptyAccess })) 40 (omega arith) (omega (arith, number_is_short number is))
-access_is_short width number (StartAccess letter) few is how has =
-    within (access_words (record { number = number; access = StartAccess letter })) 40 (omega arith)
-    (omega (arith, number_is_short number is, letter_is_short letter (omega (arith, few, has))))
-access_is_short width number (AfterAccess state letter) few is how has =
-    within (access_words (record { number = number; access = AfterAccess state letter })) 40 (omega arith)
-    (omega (arith, number_is_short number is, number_is_short state how, letter_is_short letter (omega (arith, few, has))))
-
-abbrev HasWidthToo : ℕ → Suffix → Type 0
-HasWidthToo width EmptySuffix = Unit {0}
-HasWidthToo width (ThenSuffix letter suffix) = length letter ≡ width
-
-suffix_is_short : (width number : ℕ) (suffix : Suffix) → width ≤ 16 → IsNumber number → IsSuffix suffix → HasWidthToo width suffix
-    → length (spelled_line (suffix_words (record { number = number; suffix = suffix }))) ≤ 40
-suffix_is_short width number EmptySuffix few is how has =
-    within (suffix_words (record { number = number; suffix = EmptySuffix })) 40 (omega arith) (omega (arith, number_is_short number is))
-suffix_is_short width number (ThenSuffix letter suffix) few is how has =
-    within (suffix_words (record { number = number; suffix = ThenSuffix letter suffix })) 40 (omega arith)
-    (omega (arith, number_is_short number is, number_is_short suffix how, letter_is_short letter (omega (arith, few, has))))
+  suffix_is_short : (suffix : Suffix) → IsSuffix suffix → IsHowSuffix file place suffix → length (spelled_line (suffix_words (record { number = number; suffix = suffix }))) ≤ 40
+  suffix_is_short EmptySuffix form how = within (suffix_words (record { number = number; suffix = EmptySuffix })) 40 (omega arith) (omega (arith, number_is_short number is))
+  suffix_is_short (ThenSuffix letter suffix) form how =
+      within (suffix_words (record { number = number; suffix = ThenSuffix letter suffix })) 40 (omega arith)
+      (omega (arith, number_is_short number is, number_is_short suffix form, letter_is_short letter (omega (arith, few, how.width))))
 
 step_is_short : (line : StepLine) → IsStepLine line → length (spelled_line (step_words line)) ≤ 53
 step_is_short line is =
@@ -118,13 +102,8 @@ sum_of words most (line ∷ lines) short =
     more : (one others most count : ℕ) → one ≤ most → others ≤ most * count → {all : ℕ} → all ≡ one + others → all ≤ most * suc count
     more one others most count first rest e = omega (arith, first, rest, e)
 
-flat_of_both : (one other : List (List (List ℕ))) → flat_map spelled_line (one ++ other) ≡ flat_map spelled_line one ++ flat_map spelled_line other
-flat_of_both [] other = refl
-flat_of_both (line ∷ one) other =
-    ap (λ rest. spelled_line line ++ rest) (flat_of_both one other) ∙ sym (append_assoc (spelled_line line) (flat_map spelled_line one) (flat_map spelled_line other))
-
 length_of_both : (one other : List (List (List ℕ))) → length (flat_map spelled_line (one ++ other)) ≡ length (flat_map spelled_line one) + length (flat_map spelled_line other)
-length_of_both one other = ap length (flat_of_both one other) ∙ length-append (flat_map spelled_line one) (flat_map spelled_line other)
+length_of_both one other = ap length (flat_map-append spelled_line one other) ∙ length-append (flat_map spelled_line one) (flat_map spelled_line other)
 
 -- ---- names
 
@@ -159,93 +138,42 @@ head_is_short file are is =
     let last = within (codes "states" ∷ decimal file.states ∷ []) 15 (omega arith) (omega (arith, number_is_short file.states is)) in
     omega (arith, version, short, last, length-append first (second ++ (third ++ [])), length-append second (third ++ []), length-append third [])
 
--- ---- steps
+-- ---- steps and suffixes
 
--- the lines of the steps, of which there are no more than there may be
-abbrev AreFewSteps : Option StepPart → Type 0
-AreFewSteps None = Unit {0}
-AreFewSteps (Some part) = length part.lines ≤ most_steps
-
-pub few_lines : (counts : List Count) (steps : Option StepPart) → length counts ≤ most_steps → steps ≡ Some (step_part_of counts) → AreFewSteps steps
-few_lines counts steps few is =
-    subst AreFewSteps (sym is) (omega (arith, few, length-map (enumerate_from 0 counts) step_line, length-enumerate_from 0 counts))
-
-steps_are_short : (steps : Option StepPart) → IfSome steps IsStepPart → AreFewSteps steps → length (flat_map spelled_line (step_part steps)) ≤ 6952000
-steps_are_short None is few = omega arith
-steps_are_short (Some part) is few =
+steps_are_short : (steps : Option StepPart) → IfSome steps IsStepPart → IfSome steps IsGoodStepPart → length (flat_map spelled_line (step_part steps)) ≤ 6952000
+steps_are_short None is good = omega arith
+steps_are_short (Some part) is good =
     let first = within (steps_words part) 14 (omega arith) (omega (arith, number_is_short part.count is.count)) in
     let lines = sum_of step_words 53 part.lines (λ place d within. step_is_short (get_or part.lines place d) (is.lines place d within)) in
-    omega (arith, few, first, lines, length-append (spelled_line (steps_words part)) (flat_map spelled_line (map step_words part.lines)))
-
--- ---- letters of words
-
-has_its_width : (file : AutomatonFile) (place : ℕ) (access : Access) → AreKept (keeps_how_access file place access) → HasWidth (length file.names) access
-has_its_width file place EmptyAccess are = tt
-has_its_width file place (StartAccess letter) are = (unsigned_Decides (length letter) (length file.names)).0 are.1.0
-has_its_width file place (AfterAccess state letter) are = (unsigned_Decides (length letter) (length file.names)).0 are.1.0
+    omega (arith, good.few, good.count, first, lines, length-append (spelled_line (steps_words part)) (flat_map spelled_line (map step_words part.lines)))
 
 abbrev spelt : List Word → SuffixLine → List Word
 spelt earlier line = earlier ++ suffix_word_of earlier line.suffix ∷ []
 
--- what more lines spell stands after
-record StandsBehind (lines : List SuffixLine) (earlier : List Word) : Type 0 where
-  later : List Word
-  behind : fold spelt earlier lines ≡ earlier ++ later
-  size : length later ≡ length lines
-
-stands_behind : (lines : List SuffixLine) (earlier : List Word) → StandsBehind lines earlier
-stands_behind [] earlier = record { later = []; behind = sym (append-nil earlier); size = refl }
-stands_behind (line ∷ lines) earlier =
-    let word = suffix_word_of earlier line.suffix in
-    let rest = stands_behind lines (spelt earlier line) in
-    record { later = word ∷ rest.later; behind = rest.behind ∙ append_assoc earlier (word ∷ []) rest.later; size = ap suc rest.size }
-
-width_of : (k : ℕ) (earlier : List Word) (letter : List Bool) (rest : Word) → GrowsInTurn k earlier (letter ∷ rest) → length letter ≡ k
-width_of k [] letter rest grows = absurd (let wrong : letter ∷ rest ≡ [] = grows in cc)
-width_of k (first ∷ others) letter rest grows =
-    let whole : letter ∷ rest ≡ grows.letter ∷ grows.shorter = grows.grown in
-    let same : letter ≡ grows.letter = cc in
-    ap length same ∙ grows.width
-
-module _ (k : ℕ) (L : Language) (access all : List Word) (certificate : IsCertificate k L access all) where
-  suffix_has_width : (earlier later : List Word) (suffix : Suffix) → all ≡ earlier ++ suffix_word_of earlier suffix ∷ later → HasWidthToo k suffix
-  suffix_has_width earlier later EmptySuffix same = tt
-  suffix_has_width earlier later (ThenSuffix letter from) same =
-      width_of k earlier letter _ (certificate.each earlier later (suffix_word_of earlier (ThenSuffix letter from)) same).grows
-
-  each_has_width : (lines : List SuffixLine) (earlier : List Word) → all ≡ fold spelt earlier lines → (place : ℕ) (d : SuffixLine) → place < length lines
-      → HasWidthToo k (get_or lines place d).suffix
-  each_has_width [] earlier same place d within = absurd (omega arith)
-  each_has_width (line ∷ lines) earlier same zero d within =
-      let rest = stands_behind lines (spelt earlier line) in
-      suffix_has_width earlier rest.later line.suffix (same ∙ rest.behind ∙ append_assoc earlier (suffix_word_of earlier line.suffix ∷ []) rest.later)
-  each_has_width (line ∷ lines) earlier same (suc place) d within = each_has_width lines (spelt earlier line) same place d (omega arith)
+length-spelt : (lines : List SuffixLine) (earlier : List Word) → length (fold spelt earlier lines) ≡ length earlier + length lines
+length-spelt [] earlier = omega arith
+length-spelt (line ∷ lines) earlier = omega (arith, length-spelt lines (spelt earlier line), length-append earlier (suffix_word_of earlier line.suffix ∷ []))
 
 -- ---- the file
 
-module _ (k : ℕ) (L : Language) (names : List (List ℕ)) (file : AutomatonFile) (few : k ≤ 16) (are_names : AreNames names) (is : IsAutomatonOf k L names file) (few_steps : AreFewSteps file.steps) where
+module _ (k : ℕ) (L : Language) (names : List (List ℕ)) (file : AutomatonFile) (is : IsAutomatonOf k L names file) where
   good : IsGoodFile file
-  good = good_file file is.rules
-
-  are : AreNames file.names
-  are = subst AreNames (sym is.variables) are_names
+  good = (good_files_in_words file).0 is.rules
 
   few_suffixes : length file.suffix_lines ≤ most_states
   unfolding suffix_words_of
   few_suffixes =
-      let words = access_words_of file in
       let size = table_has_the_files_states file is.rules in
       let count = is.canonical.words in
-      let rest = stands_behind file.suffix_lines [] in
       let some = good.some in
-      let most = good.few in
-      let fewer = suffixes_are_few k L words (suffix_words_of file) (omega arith) is.certificate in
-      omega (arith, fewer, size, count, most, rest.size, ap length rest.behind)
+      let most = good.states in
+      let fewer = suffixes_are_few k L (access_words_of file) (suffix_words_of file) (omega arith) is.certificate in
+      omega (arith, fewer, size, count, most, length-spelt file.suffix_lines [])
 
   nodes_are_short : length (flat_map spelled_line (map node_words file.node_lines)) ≤ 61 * length file.node_lines
   nodes_are_short =
       sum_of node_words 61 file.node_lines
-      (λ place d within. node_is_short (get_or file.node_lines place d) (is.form.node_lines place d within) (listed_is_short file.names _ are.each (good.node place d within).listed))
+      (λ place d within. node_is_short (get_or file.node_lines place d) (is.form.node_lines place d within) (listed_is_short file.names _ good.names.each ((good_file file is.rules).node place d within).listed))
 
   states_are_short : length (flat_map spelled_line (map state_words file.state_lines)) ≤ 30 * length file.state_lines
   states_are_short = sum_of state_words 30 file.state_lines (λ place d within. state_is_short (get_or file.state_lines place d) (is.form.state_lines place d within))
@@ -255,17 +183,14 @@ module _ (k : ℕ) (L : Language) (names : List (List ℕ)) (file : AutomatonFil
       sum_of access_words 40 file.access_lines
       (λ place d within.
       let line = is.form.access_lines place d within in
-      access_is_short (length file.names) _ (get_or file.access_lines place d).access are.count line.number line.access
-      (has_its_width file place (get_or file.access_lines place d).access (good.access place d within).how))
+      access_is_short file good.names.count place _ line.number (get_or file.access_lines place d).access line.access (good.access_lines place d within).how)
 
   suffixes_are_short : length (flat_map spelled_line (map suffix_words file.suffix_lines)) ≤ 40 * length file.suffix_lines
-  unfolding suffix_words_of
   suffixes_are_short =
       sum_of suffix_words 40 file.suffix_lines
       (λ place d within.
       let line = is.form.suffix_lines place d within in
-      suffix_is_short k _ (get_or file.suffix_lines place d).suffix few line.number line.suffix
-      (each_has_width k L (access_words_of file) (suffix_words_of file) is.certificate file.suffix_lines [] refl place d within))
+      suffix_is_short file good.names.count place _ line.number (get_or file.suffix_lines place d).suffix line.suffix (good.suffix_lines place d within).how)
 
   pub printed_fits : length (spelled file) ≤ most_automaton_bytes
   unfolding spelled lines_of
@@ -289,15 +214,15 @@ module _ (k : ℕ) (L : Language) (names : List (List ℕ)) (file : AutomatonFil
         four,
         five,
         six,
-        head_is_short file are is.form.states,
+        head_is_short file good.names is.form.states,
         nodes_are_short,
         states_are_short,
         accesses_are_short,
         suffixes_are_short,
-        steps_are_short file.steps is.form.steps few_steps,
+        steps_are_short file.steps is.form.steps good.steps,
         good.nodes,
-        good.few,
         good.states,
-        good.words,
+        good.all_states,
+        good.all_access,
         few_suffixes,
       )

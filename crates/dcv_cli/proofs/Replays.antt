@@ -1,16 +1,15 @@
 -- The observer of a replay, and what is right for the trace after it.
-use Rattle.dcv_cli.proofs.Common.{◌≡◌, ◌≢◌, ◌≤◌, ℕ, List, [], ◌∷◌, length, Option, Some, Result, Ok, Err, refl, sym, subst, ◌∙◌, IfErr}
+use Rattle.dcv_cli.proofs.Common.{◌≡◌, ◌≢◌, ◌≤◌, ℕ, List, [], ◌∷◌, length, Option, Some, refl, sym, subst, ◌∙◌}
 use Rattle.dcv_cli.proofs.Common.{OnTrue, Asks, Disk, held_of, asks_in_turn, Replay, Subset, InLustre, InC, ObsFault, Observer}
-use Rattle.dcv_cli.proofs.Common.{KeepsTheRules, Refusal, Only, Texts, OnHeld, IsHeldText, IsFaultIn, IsRefusedObserver, IsObserverText}
-use Rattle.dcv_cli.proofs.Common.{OnObserver, Outcome, IsExplained, Outside, outside, LeavesFor, most_observer_bytes, refusal_of_observer}
+use Rattle.dcv_cli.proofs.Common.{KeepsTheRules, Refusal, Only, Texts, OnHeld, IsHeldSuch, IsHeldText, IsFaultIn, IsRefusedObserver, IsObserverText}
+use Rattle.dcv_cli.proofs.Common.{OnObserver, Outcome, IsExplained, Outside, LeavesFor, most_observer_bytes, refusal_of_observer}
 use Rattle.dcv_cli.proofs.Common.{status_of, IsReplay, FulfilsTrace, LeavesTrace, LeavesOfTrace, OfOpen, OfRead, Fulfils, FulfilsOver}
 use Rattle.dcv_cli.proofs.Common.{is_determined}
 use Rattle.dcv_observer.specs.declared.fault.ObsFault.TheVariants.{Memory}
 use Rattle.dcv_replay.specs.Observer.{Lustre, C}
 use Rattle.dcv_cli.specs.ObserverFile.{Faulty, Refused, Read}
 use Rattle.dcv_cli.specs.Replayed.{LeavesAnswers, OfObserver, OfOpen as NotOpened, OfRead as ReadFailed}
-use Rattle.dcv_cli.specs.Replaying.{IsRefusedIn}
-use Rattle.dcv_cli.proofs.ThreeEnds.{explains_first, for_any, on_true_weaker}
+use Rattle.dcv_cli.proofs.ThreeEnds.{explains_first, for_any}
 use Rattle.dcv_cli.proofs.TwoFiles.{later_held}
 
 -- a fault of the text is a right refusal
@@ -28,21 +27,13 @@ keeps_the_rules InC text (C unit) is = is.read.well_named
 
 -- ---- of the file of a name
 
--- a refusal of a text that is held is one of the file
-pub refused_in : {T : Type 0} (subset : Subset) (told : Option Disk) (name text : List ℕ) (result : Result T Refusal) → IsHeldText told name text
-    → IfErr result (λ refusal. OnTrue (is_determined (status_of refusal)) (IsRefusedObserver subset text refusal))
-    → IfErr result (λ refusal. OnTrue (is_determined (status_of refusal)) (IsRefusedIn subset told name refusal))
-refused_in subset told name text (Ok value) there refused = tt
-refused_in subset told name text (Err refusal) there refused =
-    on_true_weaker (is_determined (status_of refusal)) (λ is. record { text = text; there = there; refused = is }) refused
-
 module _ (subset : Subset) (told : Option Disk) (name trace : List ℕ) where
   -- so it is right, whatever is held under the name of the trace
-  pub explains_replay : (refusal : Refusal) → OnTrue (is_determined (status_of refusal)) (IsRefusedIn subset told name refusal)
+  pub explains_replay : (refusal : Refusal) → OnTrue (is_determined (status_of refusal)) (IsHeldSuch told name (λ text. IsRefusedObserver subset text refusal))
       → IsExplained (FulfilsOver (Replay subset name trace) told) Only refusal
   explains_replay refusal refused_so =
       explains_first told name (λ held text. OnObserver subset text (λ one. OnHeld (held 1) trace (IsReplay one))) Only refusal (λ text. IsRefusedObserver subset text refusal)
-      (λ held text is. Refused refusal is refl) (on_true_weaker (is_determined (status_of refusal)) (λ is. (is.text, is.there, is.refused)) refused_so)
+      (λ held text is. Refused refusal is refl) refused_so
 
   module _ (told' : Option Disk) (text : List ℕ) (observer : Observer) (same : held_of told' ≡ held_of told) (there : IsHeldText told name text)
       (is : IsObserverText subset text observer) where
@@ -57,14 +48,14 @@ module _ (subset : Subset) (told : Option Disk) (name trace : List ℕ) where
 -- what was written where the trace failed is what was written for both
 pub leaves_replay : (subset : Subset) (name trace text : List ℕ) (observer : Observer) (told : Option Disk) (asked : Option (List (List ℕ))) (before after : Outside) (bytes : List ℕ)
     → Asks (name ∷ []) before.asked asked → held_of told ≡ held_of before.told → IsHeldText before.told name text → IsObserverText subset text observer
-    → LeavesTrace observer trace (outside told asked before.open_faults before.read_faults before.written before.faults) after bytes
+    → LeavesTrace observer trace (record before { told = told; asked = asked }) after bytes
     → LeavesFor (Replay subset name trace) before after bytes
 leaves_replay subset name trace text observer told asked before after bytes one same there is left =
     later_held before.told told name text (λ held. LeavesOfTrace observer trace (held 0 trace) from after bytes)
     (λ held. LeavesAnswers subset name trace held before after bytes) same there moves left
   where
     from : Outside
-    from = outside told asked before.open_faults before.read_faults before.written before.faults
+    from = record before { told = told; asked = asked }
 
     both : Asks (trace ∷ []) asked after.asked → Asks (name ∷ trace ∷ []) before.asked after.asked
     both later = asks_in_turn before.asked asked after.asked (name ∷ []) (trace ∷ []) one later

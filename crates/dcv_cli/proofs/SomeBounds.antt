@@ -4,15 +4,15 @@
 --     within_of_file       and with that of what models a file
 use Rattle.dcv_cli.proofs.Common.{◌≡◌, ℕ, List, [], length, None, sym, ◌∙◌, subst, arith, slice_get_within, slice_get-get_or, Word, accepts}
 use Rattle.dcv_cli.proofs.Common.{IsCanonical, Language, HaveSameBehaviours, Table, canonical_for_same_behaviours, CoreTree, words_of}
-use Rattle.dcv_cli.proofs.Common.{steps_of, Limits, models, core_of_file, fault_of_file, fault_of_goal, WordsAreModels, fault_of_names}
-use Rattle.dcv_cli.proofs.Common.{no_bound_shift, PlainFile, row_at, IsWithinBudget, MachineAcceptsStep, steps_of_file, IsTableWithin}
+use Rattle.dcv_cli.proofs.Common.{steps_of, Limits, models, core_of_file, fault_of_file, WordsAreModels}
+use Rattle.dcv_cli.proofs.Common.{PlainFile, row_at, IsWithinBudget, MachineAcceptsStep, steps_of_file, IsTableWithin}
 use Rattle.dcv_core.specs.Steps.{steps_before}
 use Rattle.dcv_core.proofs.StepList.{last_step_is_core}
 use Rattle.dcv_build.specs.Laws.{AreCanonicalBefore}
 use Rattle.dcv_build.proofs.Progress.{row_slots}
 use Rattle.dcv_build.proofs.SameRows.{table_at}
 use Rattle.dcv_quotient.proofs.TableBounds.{within_of_row}
-use Rattle.dcv_cli.proofs.VariableNames.{none_of_both}
+use Rattle.dcv_cli.proofs.VariableNames.{no_shift_is_bound}
 
 module _ (accept : MachineAcceptsStep) (k : ℕ) (tree : CoreTree) (limits : Limits) (within : IsWithinBudget (steps_of k tree) limits) where
   canonical_before : (n : ℕ) → AreCanonicalBefore (steps_of k tree) n within.tables
@@ -47,5 +47,4 @@ module _ (accept : MachineAcceptsStep) (k : ℕ) (tree : CoreTree) (limits : Lim
 pub within_of_file : MachineAcceptsStep → WordsAreModels → (limits : Limits) (file : PlainFile) → fault_of_file file ≡ None → IsWithinBudget (steps_of_file file) limits
     → (table : Table) (access : List Word) → IsCanonical (length file.variables) (models file) table access → IsTableWithin (length file.variables) limits table
 within_of_file accept models_are limits file none within =
-    let unbound = no_bound_shift file (none_of_both (fault_of_names file) (fault_of_goal file) none).1 in
-    within_of_set accept (length file.variables) (core_of_file file) limits within (models file) (λ word behaves. models_are file word unbound behaves)
+    within_of_set accept (length file.variables) (core_of_file file) limits within (models file) (λ word behaves. models_are file word (no_shift_is_bound file none) behaves)

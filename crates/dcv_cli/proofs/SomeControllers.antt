@@ -3,10 +3,10 @@
 --     GameLaws               the laws that are cited
 --     some_synthesis_of      so there is one
 use Rattle.dcv_cli.proofs.Common.{◌≡◌, inl, inr, ℕ, ◌+◌, ◌≤◌, List, [], length, refl, sym, ◌∙◌, subst, arith, length-map, Word, AreNames}
-use Rattle.dcv_cli.proofs.Common.{TextIsReadBack, text_of, IsCanonical, Language, Table, table_accepts, automaton_of, most_states}
+use Rattle.dcv_cli.proofs.Common.{TextIsReadBack, text_of, IsCanonical, Language, Table, most_states}
 use Rattle.dcv_cli.proofs.Common.{most_nodes, ControlValue, controller_by, Wins, ControlsWin, StrategiesBeat, WinsOverSameBehaviours}
-use Rattle.dcv_cli.proofs.Common.{BeatsOverSameBehaviours, input_at, IsUnrealisable, environment_of, controller_in, Strategy, Outcome}
-use Rattle.dcv_cli.proofs.Common.{Valid, NotValid, controller_text, strategy_text, SaysController, SaysStrategy, IsSynthesis, Realisable}
+use Rattle.dcv_cli.proofs.Common.{BeatsOverSameBehaviours, controller_in, Outcome}
+use Rattle.dcv_cli.proofs.Common.{Valid, NotValid, controller_text, strategy_text, SaysController, IsSynthesis, Realisable}
 use Rattle.dcv_cli.proofs.Common.{Unrealisable}
 use Rattle.dcv_arena.specs.Arena.{ArenaValue, IsReduced, IsRef}
 use Rattle.dcv_arena.specs.Diagram.{node_count}
@@ -20,6 +20,7 @@ use Rattle.dcv_synth.specs.Units.{unit_of}
 use Rattle.dcv_quotient.proofs.SomeAutomata.{rows_of}
 use Rattle.dcv_existence.proofs.SomeControls.{IsControlFor, some_control}
 use Rattle.dcv_existence.proofs.SomeSyntheses.{some_synthesis}
+use Rattle.dcv_cli.proofs.Syntheses.{says_controller_of, says_strategy_of}
 
 -- ---- lines
 
@@ -46,20 +47,6 @@ pub record GameLaws : Type 0 where
   pub read_back : TextIsReadBack
 
 module _ (laws : GameLaws) (n m : ℕ) (L : Language) (table : Table) (access : List Word) (canonical : IsCanonical (n + m) L table access) where
-  -- ---- a strategy
-
-  says_strategy : (strategy : Strategy) → IsUnrealisable n m (automaton_of table) strategy → SaysStrategy n m L (strategy_text strategy)
-  says_strategy strategy is = record {
-    table = table;
-    access = access;
-    canonical = canonical;
-    strategy = strategy;
-    least = is;
-    says = refl;
-    beats = laws.beats_over n m (table_accepts table) L (environment_of (automaton_of table) (input_at n strategy.moves.items)) strategy.bound canonical.exact
-        (laws.strategies n m (automaton_of table) strategy is);
-  }
-
   -- ---- a controller
 
   module _ (names : List (List ℕ)) (are : AreNames names) (inputs : length names ≡ n) where
@@ -85,20 +72,8 @@ module _ (laws : GameLaws) (n m : ℕ) (L : Language) (table : Table) (access : 
     says_controller control is has =
         let unit = unit_of names control in
         let (named, form) = laws.units_keep names control has in
-        let won = laws.wins_over n m (table_accepts table) L (controller_by m control) canonical.exact (laws.controls n m (automaton_of table) control refl is.least) in
-        let carries : Wins n m L (controller_by m control) → Wins n m L (controller_in m unit) =
-        subst (λ k. Wins k m L (controller_by m control) → Wins k m L (controller_in m unit)) is.inputs (laws.units_win names control has m L) in
-        record {
-          table = table;
-          access = access;
-          canonical = canonical;
-          control = control;
-          rows = is.is;
-          least = is.least;
-          says = refl;
-          read = laws.read_back unit form named;
-          wins = carries won;
-        }
+        says_controller_of n m L table access canonical laws.controls laws.wins_over laws.read_back names control unit is.is is.least refl form named
+        (subst (λ k. Wins k m L (controller_by m control) → Wins k m L (controller_in m unit)) is.inputs (laws.units_win names control has m L))
 
     -- ---- one of the two
 
@@ -113,6 +88,6 @@ module _ (laws : GameLaws) (n m : ℕ) (L : Language) (table : Table) (access : 
           )
       | inr unrealisable ↦ (
         record { status = NotValid; out = strategy_text unrealisable.0; err = [] },
-        Unrealisable (says_strategy unrealisable.0 unrealisable.1) refl refl,
+        Unrealisable (says_strategy_of n m L table access canonical laws.strategies laws.beats_over unrealisable.0 unrealisable.1) refl refl,
       )
     ]

@@ -55,7 +55,7 @@ not_above most n fault none = by (nat_le n most) refl none
     by false is none = let wrong : Some fault ≡ None = none in cc
 
 -- a formula file has few steps
-pub few_counts : StepsAreFew → (text : List ℕ) (file : PlainFile) → IsFormulaFile text file → (limits : Limits) (counts : List Count)
+few_counts : StepsAreFew → (text : List ℕ) (file : PlainFile) → IsFormulaFile text file → (limits : Limits) (counts : List Count)
     → AreCounts (steps_of_file file) limits counts → length counts ≤ most_steps
 few_counts steps_are_few text file is limits counts are =
     let none = (none_of_both (fault_of_names file) (fault_of_goal file) is.has_core).1 in

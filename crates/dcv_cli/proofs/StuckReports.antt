@@ -9,16 +9,17 @@ use Rattle.dcv_logic.specs.Models.{models}
 use Rattle.dcv_scope.specs.Faults.{fault_of_file}
 use Rattle.dcv_scope.specs.Laws.{WordsAreModels}
 use Rattle.dcv_dfa.specs.Auto.{IsAuto}
-use Rattle.dcv_dfa.specs.Raw.{RawValue, raw_accepts}
+use Rattle.dcv_dfa.specs.Raw.{raw_accepts}
 use Rattle.dcv_build.specs.Laws.{MachineAcceptsStep}
+use Rattle.dcv_build.specs.declared.builder.Built.{Built}
 use Rattle.dcv_explore.specs.declared.explorer.Limits.{Limits}
 use Rattle.dcv_stuck.specs.Laws.{LeastStuckOfSameBehaviours, NeverStuckGoesOn}
 use Rattle.dcv_stuck.specs.Stuck.{KeepsTo, IsLeastStuckOf, GoesOnForEver}
 use Rattle.dcv_stuck.proofs.SomeStuck.{some_least_stuck}
 use Rattle.dcv_cli.specs.declared.refused.Which.TheVariants.{Only}
 use Rattle.dcv_cli.specs.Budget.{IsBudgeted, WithinBudget}
-use Rattle.dcv_cli.specs.Expanded.{IsBuilt}
 use Rattle.dcv_cli.specs.Outcome.{Outcome}
+use Rattle.dcv_cli.specs.ReadFile.{IsBuilt}
 use Rattle.dcv_cli.specs.Stuck.{stuck_outcome, IsStuckReport}
 use Rattle.dcv_cli.proofs.SomeReports.{table_of_file, over_or_within}
 
@@ -37,14 +38,14 @@ module _ (goes_on : NeverStuckGoesOn) where
       record { least = least; is_least = is; goes_on = none_goes_on (length file.variables) (models file) least is; says = refl }
 
   -- the automaton of the file has its stuck words
-  pub built_reports : LeastStuckOfSameBehaviours → (file : PlainFile) (limits : Limits) (auto : RawValue) (least : Option Word)
-      → IsAuto auto → IsBuilt file limits auto
-      → IsLeastStuckOf auto.arena.slots (raw_accepts auto) least → IsBudgeted limits Only IsStuckReport file (stuck_outcome least)
-  built_reports move file limits auto least auto_is built is =
-      let of = built.automaton in
-      WithinBudget built.within (reports file least
+  pub built_reports : LeastStuckOfSameBehaviours → (file : PlainFile) (limits : Limits) (built : Built) (least : Option Word)
+      → IsAuto built.auto → IsBuilt file limits built
+      → IsLeastStuckOf built.auto.arena.slots (raw_accepts built.auto) least → IsBudgeted limits Only IsStuckReport file (stuck_outcome least)
+  built_reports move file limits built least auto_is built_is is =
+      let of = built_is.automaton in
+      WithinBudget built_is.within (reports file least
       (subst (λ k. IsLeastStuckOf k (models file) least) of.slots
-      (move auto.arena.slots (raw_accepts auto) (models file) least
+      (move built.auto.arena.slots (raw_accepts built.auto) (models file) least
       (λ word b. sym (auto_is.canonical.exact word b) ∙ of.canonical.exact word (subst (λ k. IsBehaviour k word) of.slots b)) is)))
 
   -- there is something to say, by the canonical table of the file

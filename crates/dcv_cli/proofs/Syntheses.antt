@@ -1,12 +1,11 @@
 -- What is found where a controller is asked for is right for the sets whose automaton it is, and for the file.
 use Rattle.dcv_cli.proofs.Common.{◌≡◌, ◌≢◌, ℕ, ◌+◌, ◌-◌, ◌≤◌, List, length, refl, sym, ap, subst, arith, take, IsTrue, IsFalse, nat_le}
-use Rattle.dcv_cli.proofs.Common.{length-take, PlainFile, Name, models, Language, table_accepts, automaton_of as table_automaton, AreNames}
+use Rattle.dcv_cli.proofs.Common.{length-take, PlainFile, Name, models, Language, table_accepts, automaton_of as table_automaton, AreNames, Table, Word, IsCanonical}
 use Rattle.dcv_cli.proofs.Common.{IsPlainName, RawValue, IsRaw, table_of_states, Limits, IsAutomatonOf, TextIsReadBack, text_of, CUnit}
 use Rattle.dcv_cli.proofs.Common.{ControlValue, IsControlOf, controller_by, Wins, ControlsWin, StrategiesBeat, WinsOverSameBehaviours}
 use Rattle.dcv_cli.proofs.Common.{BeatsOverSameBehaviours, input_at, IsUnrealisable, environment_of, controller_in, Strategy, WithinBudget}
-use Rattle.dcv_cli.proofs.Common.{IsJudged, refused, is_answer, can_be_divided, controller_text, strategy_text, SaysController}
+use Rattle.dcv_cli.proofs.Common.{IsBuilt, Built, refused, is_answer, can_be_divided, controller_text, strategy_text, SaysController}
 use Rattle.dcv_cli.proofs.Common.{SaysStrategy, IsSynthesis, IsSynthesised, Undivided, Divided, status_of_synthesis, Formula, Outputs, Only}
-use Rattle.dcv_cli.proofs.Common.{Judged}
 use Rattle.std.proofs.lemmas.Bool.{and_parts, leb-true}
 use Rattle.std.proofs.lemmas.List.{get_or-take, take-map}
 use Rattle.std.proofs.lemmas.List.Elements.{All-take}
@@ -53,6 +52,39 @@ texts_of_some n names = take-map (λ (name : Name). name.text) n names
 pub names_of_inputs : (n : ℕ) (names : List Name) → AreNames (texts_of names) → AreNames (texts_of (take n names))
 names_of_inputs n names are = subst AreNames (texts_of_some n names) (some_names n (texts_of names) are)
 
+-- ---- of a canonical table
+
+module _ (n m : ℕ) (L : Language) (table : Table) (access : List Word) (canonical : IsCanonical (n + m) L table access) where
+  pub says_controller_of : ControlsWin → WinsOverSameBehaviours → TextIsReadBack → (names : List (List ℕ)) (control : ControlValue) (unit : CUnit) → IsControl control
+      → IsControlOf n m (table_automaton table) control → unit ≡ unit_of names control → IsSpellable unit → IsWellNamed unit
+      → (Wins n m L (controller_by m control) → Wins n m L (controller_in m unit)) → SaysController n m L names (controller_text (text_of unit))
+  says_controller_of win over back names control unit rows least same form named carries =
+      let won = over n m (table_accepts table) L (controller_by m control) canonical.exact (win n m (table_automaton table) control refl least) in
+      record {
+        table = table;
+        access = access;
+        canonical = canonical;
+        control = control;
+        rows = rows;
+        least = least;
+        says = ap (λ (one : CUnit). controller_text (text_of one)) same;
+        read = subst (λ (one : CUnit). IsReadAs (text_of one) one) same (back unit form named);
+        wins = subst (λ (one : CUnit). Wins n m L (controller_in m one)) same (carries won);
+      }
+
+  pub says_strategy_of : StrategiesBeat → BeatsOverSameBehaviours → (strategy : Strategy) → IsUnrealisable n m (table_automaton table) strategy
+      → SaysStrategy n m L (strategy_text strategy)
+  says_strategy_of beat over strategy least = record {
+    table = table;
+    access = access;
+    canonical = canonical;
+    strategy = strategy;
+    least = least;
+    says = refl;
+    beats = over n m (table_accepts table) L (environment_of (table_automaton table) (input_at n strategy.moves.items)) strategy.bound canonical.exact
+        (beat n m (table_automaton table) strategy least);
+  }
+
 -- ---- of an automaton
 
 -- the automaton of a set, whose letters are inputs and outputs
@@ -65,44 +97,20 @@ module _ (tables : TablesGoOnAlike) (n m : ℕ) (L : Language) (raw : RawValue) 
   alike : GoOnAlike (n + m) (automaton_of raw) (table_automaton (table_of_states raw))
   alike = subst (λ k. GoOnAlike k (automaton_of raw) (table_automaton (table_of_states raw))) is.of.slots (tables raw is.raw_is is.start)
 
-  module _ (controls : ControlsOfLikeAutomata) (win : ControlsWin) (over : WinsOverSameBehaviours) (back : TextIsReadBack) where
-    pub says_controller : (names : List (List ℕ)) (control : ControlValue) (unit : CUnit) → IsControl control → IsControlOf n m (automaton_of raw) control
-        → unit ≡ unit_of names control → IsSpellable unit → IsWellNamed unit
-        → ((m : ℕ) (L : Language) → Wins control.next.arena.slots m L (controller_by m control) → Wins control.next.arena.slots m L (controller_in m unit))
-        → SaysController n m L names (controller_text (text_of unit))
-    says_controller names control unit rows control_is same form named carries =
-        let table = table_of_states raw in
-        let least = controls n m (automaton_of raw) (table_automaton table) control alike control_is in
-        let won = over n m (table_accepts table) L (controller_by m control) is.of.canonical.exact (win n m (table_automaton table) control refl least) in
-        let unit_wins : Wins n m L (controller_in m unit) =
-        subst (λ k. Wins k m L (controller_by m control) → Wins k m L (controller_in m unit)) control_is.next.slots (carries m L) won in
-        record {
-          table = table;
-          access = is.of.access;
-          canonical = is.of.canonical;
-          control = control;
-          rows = rows;
-          least = least;
-          says = ap (λ (one : CUnit). controller_text (text_of one)) same;
-          read = subst (λ (one : CUnit). IsReadAs (text_of one) one) same (back unit form named);
-          wins = subst (λ (one : CUnit). Wins n m L (controller_in m one)) same unit_wins;
-        }
+  pub says_controller : ControlsOfLikeAutomata → ControlsWin → WinsOverSameBehaviours → TextIsReadBack → (names : List (List ℕ)) (control : ControlValue) (unit : CUnit) → IsControl control
+      → IsControlOf n m (automaton_of raw) control → unit ≡ unit_of names control → IsSpellable unit → IsWellNamed unit
+      → ((m : ℕ) (L : Language) → Wins control.next.arena.slots m L (controller_by m control) → Wins control.next.arena.slots m L (controller_in m unit))
+      → SaysController n m L names (controller_text (text_of unit))
+  says_controller controls win over back names control unit rows control_is same form named carries =
+      says_controller_of n m L (table_of_states raw) is.of.access is.of.canonical win over back names control unit rows
+      (controls n m (automaton_of raw) (table_automaton (table_of_states raw)) control alike control_is) same form named
+      (subst (λ k. Wins k m L (controller_by m control) → Wins k m L (controller_in m unit)) control_is.next.slots (carries m L))
 
-  module _ (strategies : StrategiesOfLikeAutomata) (beat : StrategiesBeat) (over : BeatsOverSameBehaviours) where
-    pub says_strategy : (strategy : Strategy) → IsUnrealisable n m (automaton_of raw) strategy → SaysStrategy n m L (strategy_text strategy)
-    says_strategy strategy unrealisable =
-        let table = table_of_states raw in
-        let least = strategies n m (automaton_of raw) (table_automaton table) strategy alike unrealisable in
-        record {
-          table = table;
-          access = is.of.access;
-          canonical = is.of.canonical;
-          strategy = strategy;
-          least = least;
-          says = refl;
-          beats = over n m (table_accepts table) L (environment_of (table_automaton table) (input_at n strategy.moves.items)) strategy.bound is.of.canonical.exact
-              (beat n m (table_automaton table) strategy least);
-        }
+  pub says_strategy : StrategiesOfLikeAutomata → StrategiesBeat → BeatsOverSameBehaviours → (strategy : Strategy) → IsUnrealisable n m (automaton_of raw) strategy
+      → SaysStrategy n m L (strategy_text strategy)
+  says_strategy strategies beat over strategy unrealisable =
+      says_strategy_of n m L (table_of_states raw) is.of.access is.of.canonical beat over strategy
+      (strategies n m (automaton_of raw) (table_automaton (table_of_states raw)) strategy alike unrealisable)
 
 -- of the automaton of a set over so many variables
 pub of_set : (n k : ℕ) (L : Language) (raw : RawValue) → IsRaw raw → raw.start ≡ 0 → n ≤ k → IsAutomatonOf k L raw → IsOfSet n (k - n) L raw
@@ -121,12 +129,12 @@ module _ (inputs : ℕ) (limits : Limits) (file : PlainFile) where
   explains_undivided not = Undivided not refl
 
 -- what is found of its automaton
-pub found_of_file : (inputs : ℕ) (limits : Limits) (file : PlainFile) (judged : Judged) (found : Synthesis) → IsJudged file limits judged
-    → IsTrue (can_be_divided inputs (length judged.names.items))
-    → ((k : ℕ) (L : Language) → IsAutomatonOf k L judged.auto → IsSynthesis inputs (k - inputs) L (take inputs (texts_of judged.names.items)) (synthesised found))
+pub found_of_file : (inputs : ℕ) (limits : Limits) (file : PlainFile) (names : List Name) (built : Built) (found : Synthesis) → names ≡ file.variables → IsBuilt file limits built
+    → IsTrue (can_be_divided inputs (length names))
+    → ((k : ℕ) (L : Language) → IsAutomatonOf k L built.auto → IsSynthesis inputs (k - inputs) L (take inputs (texts_of names)) (synthesised found))
     → IsSynthesised inputs limits file (synthesised found)
-found_of_file inputs limits file judged found is fits each =
-    Divided (subst (λ (names : List Name). IsTrue (can_be_divided inputs (length names))) is.names fits)
+found_of_file inputs limits file names built found same is fits each =
+    Divided (subst (λ (names : List Name). IsTrue (can_be_divided inputs (length names))) same fits)
     (WithinBudget is.within
-    (subst (λ (names : List Name). IsSynthesis inputs (length file.variables - inputs) (models file) (take inputs (texts_of names)) (synthesised found)) is.names
+    (subst (λ (names : List Name). IsSynthesis inputs (length file.variables - inputs) (models file) (take inputs (texts_of names)) (synthesised found)) same
     (each (length file.variables) (models file) is.automaton)))

@@ -1,10 +1,10 @@
 -- How each command keeps to what all of them do: by a refusal before anything is written, a report that is written whole, or one whose writing
 -- failed; and a replay by a fault of the trace, or of a read of it, after what was written.
 use Rattle.dcv_cli.proofs.Common.{◌≡◌, ℕ, Bool, true, false, List, [], ◌∷◌, Option, None, Some, Result, Ok, Err, length, refl, sym, ap, ◌∙◌}
-use Rattle.dcv_cli.proofs.Common.{subst, inl, inr, arith, take-length, IsTrue, IsFalse, if◌then◌else◌, OnTrue, true≢false, Disk, has_risen}
+use Rattle.dcv_cli.proofs.Common.{subst, inl, inr, arith, take-length, IfErr, IsTrue, IsFalse, if◌then◌else◌, OnTrue, true≢false, Disk, has_risen}
 use Rattle.dcv_cli.proofs.Common.{RisesIf, Appends, AppendsPrefix, AppendsStrictPrefix, strict_is_prefix, Refusal, Open, Trace, Write}
 use Rattle.dcv_cli.proofs.Common.{Status, Valid, Done, NotValid, Input, Output, TraceFault, EndsBy, HasInputCause, NoneRises, Texts, OnHeld}
-use Rattle.dcv_cli.proofs.Common.{ForHeld, IsHeldText, Outcome, IsExplained, refused, Outside, of_files, outside, Answers, Performs, Takes}
+use Rattle.dcv_cli.proofs.Common.{ForHeld, IsHeldSuch, IsHeldText, Outcome, IsExplained, refused, Outside, Stream, with_output, Answers, Performs, Takes}
 use Rattle.dcv_cli.proofs.Common.{ending, Which, Only, status_of, message_of, only, is_open, is_read, is_of_text, has_cause, is_answer}
 use Rattle.dcv_cli.proofs.Common.{is_determined, is_input, is_output}
 use Rattle.std.proofs.Common.{append-nil}
@@ -50,11 +50,19 @@ fulfils_first told name text OfText outcome there right = for_text told name tex
 -- a refusal of a text that is held is one of what is held
 pub explains_first : (told : Option Disk) (name : List ℕ) (OfText : Texts → List ℕ → Outcome → Type 0) (which : Which) (refusal : Refusal) (Refuses : List ℕ → Type 0)
     → ((held : Texts) (text : List ℕ) → Refuses text → OfText held text (refused refusal which))
-    → OnTrue (is_determined (status_of refusal)) ((text : List ℕ) × IsHeldText told name text × Refuses text)
+    → OnTrue (is_determined (status_of refusal)) (IsHeldSuch told name Refuses)
     → IsExplained (λ outcome. ForHeld told (λ held. OnHeld (held 0) name (OfText held) outcome)) which refusal
 explains_first told name OfText which refusal Refuses right explained =
     on_true_weaker (is_determined (status_of refusal))
-    (λ some. fulfils_first told name some.0 OfText (refused refusal which) some.1 (λ held. right held some.0 some.2)) explained
+    (λ some. fulfils_first told name some.text OfText (refused refusal which) some.there (λ held. right held some.text some.is)) explained
+
+-- and so is one of a text that was taken
+pub refused_held : {T : Type 0} (told : Option Disk) (name text : List ℕ) (Refuses : Refusal → List ℕ → Type 0) (result : Result T Refusal) → IsHeldText told name text
+    → IfErr result (λ refusal. OnTrue (is_determined (status_of refusal)) (Refuses refusal text))
+    → IfErr result (λ refusal. OnTrue (is_determined (status_of refusal)) (IsHeldSuch told name (Refuses refusal)))
+refused_held told name text Refuses (Ok value) there refused = tt
+refused_held told name text Refuses (Err refusal) there refused =
+    on_true_weaker (is_determined (status_of refusal)) (λ is. record { text = text; there = there; is = is }) refused
 
 -- ---- refusals
 
@@ -119,9 +127,9 @@ answer_is_none _ is = absurd (true≢false (sym is))
 -- ---- what was written
 
 module _ (Right : Outcome → Type 0) where
-  module _ (old new : Option (List ℕ)) (before after : ℕ) where
+  module _ (old new : Stream) where
     pub ends_refused : (refusal : Refusal) (which : Which) → IsTrue (is_of_taking refusal) → OnTrue (has_cause (status_of refusal)) (which ≡ Only)
-        → IsExplained Right which refusal → Appends old new [] → after ≡ before → Ends Right (Err (of refusal which)) old before new after
+        → IsExplained Right which refusal → Appends old.written new.written [] → new.faults ≡ old.faults → Ends Right (Err (of refusal which)) old new
     ends_refused refusal which taking none explained silent same = record {
       right = on_true_weaker (is_determined (status_of refusal))
           (λ right. record { outcome = refused refusal which; right = right; ends = refl; report = silent; message = refl }) explained;
@@ -134,12 +142,12 @@ module _ (Right : Outcome → Type 0) where
     }
 
     -- some of a right report is missing, since a write failed
-    pub ends_broken : (outcome : Outcome) → Right outcome → AppendsStrictPrefix old new outcome.out → Rises before after
-        → Ends Right (Err (only Write)) old before new after
+    pub ends_broken : (outcome : Outcome) → Right outcome → AppendsStrictPrefix old.written new.written outcome.out → Rises old.faults new.faults
+        → Ends Right (Err (only Write)) old new
     ends_broken outcome right part rises = record {
       right = tt;
       answer = tt;
-      front = inr (outcome, right, strict_is_prefix old new outcome.out part);
+      front = inr (outcome, right, strict_is_prefix old.written new.written outcome.out part);
       silent = tt;
       stops = (outcome, right, part);
       output = rises;
@@ -147,60 +155,61 @@ module _ (Right : Outcome → Type 0) where
     }
 
     -- a read failed after the front of a right report
-    pub ends_cut : (outcome : Outcome) → Right outcome → AppendsPrefix old new outcome.out → after ≡ before → Ends Right (Err (only Read)) old before new after
+    pub ends_cut : (outcome : Outcome) → Right outcome → AppendsPrefix old.written new.written outcome.out → new.faults ≡ old.faults → Ends Right (Err (only Read)) old new
     ends_cut outcome right front same =
         record { right = tt; answer = tt; front = inr (outcome, right, front); silent = tt; stops = tt; output = same; of_none = refl }
 
-    -- a fault of the trace, after the whole of a right report
-    pub ends_at_fault : (fault : TraceFault) (text : List ℕ)
-        → Right (record { status = status_of (Trace fault); out = text; err = message_of (only (Trace fault)) }) → Appends old new text
-        → after ≡ before → Ends Right (Err (only (Trace fault))) old before new after
-    ends_at_fault fault text right written same =
-        let outcome : Outcome = record { status = status_of (Trace fault); out = text; err = message_of (only (Trace fault)) } in
-        record {
-          right = record { outcome = outcome; right = right; ends = refl; report = written; message = refl };
-          answer = tt;
-          front = inr (outcome, right, (length text, omega arith, rw take-length written));
-          silent = tt;
-          stops = tt;
-          output = same;
-          of_none = tt;
-        }
+    -- the whole of a right report was written
+    module _ (outcome : Outcome) (right : Right outcome) (written : Appends old.written new.written outcome.out) (same : new.faults ≡ old.faults) where
+      abbrev whole : AddsFront Right old.written new.written
+      whole = inr (outcome, right, (length outcome.out, omega arith, rw take-length written))
 
-    -- a report with this status is right
-    module _ (status : Status) (text : List ℕ) (right : Right (record { status = status; out = text; err = [] })) (answers : IsTrue (is_answer status)) where
-      pub ends_sent : Appends old new text → after ≡ before → Ends Right (Ok status) old before new after
-      ends_sent written same =
-          let none = answer_is_none status answers in
-          let ended : EndsBy Right status old new (λ message. message ≡ []) =
-          record { outcome = record { status = status; out = text; err = [] }; right = right; ends = refl; report = written; message = refl } in
+      -- before a fault of the trace
+      pub ends_at_fault : (fault : TraceFault) → outcome.status ≡ status_of (Trace fault) → outcome.err ≡ message_of (only (Trace fault))
+          → Ends Right (Err (only (Trace fault))) old new
+      ends_at_fault fault status message = record {
+        right = record { outcome = outcome; right = right; ends = status; report = written; message = message };
+        answer = tt;
+        front = whole;
+        silent = tt;
+        stops = tt;
+        output = same;
+        of_none = tt;
+      }
+
+      -- and that is all
+      pub ends_sent : IsTrue (is_answer outcome.status) → outcome.err ≡ [] → Ends Right (Ok outcome.status) old new
+      ends_sent answers none =
+          let faultless = answer_is_none outcome.status answers in
+          let ended : EndsBy Right outcome.status old.written new.written (λ message. message ≡ []) =
+          record { outcome = outcome; right = right; ends = refl; report = written; message = none } in
           record {
             right = on_true _ ended;
             answer = answers;
-            front = inr (record { status = status; out = text; err = [] }, right, (length text, omega arith, rw take-length written));
-            silent = rw none.silent tt;
-            stops = rw none.output tt;
-            output = rw none.output same;
+            front = whole;
+            silent = rw faultless.silent tt;
+            stops = rw faultless.output tt;
+            output = rw faultless.output same;
             of_none = tt;
           }
 
-      pub answers_reply : (given : Status) → given ≡ status → (result : Result Status Refused) → Replies given text result old before new after
-          → Answers Right result old before new after
-      answers_reply given same (Ok answer) (is, written, unchanged) =
-          subst (λ (answer : Status). Answers Right (Ok answer) old before new after) (sym (is ∙ same))
-          (record { ends = ends_sent written unchanged; no_input = (answer_is_none status answers).input })
-      answers_reply given same (Err refusal) (is, part, rises) =
-          subst (λ (refusal : Refused). Answers Right (Err refusal) old before new after) (sym is)
-          (record { ends = ends_broken (record { status = status; out = text; err = [] }) right part rises; no_input = refl })
+    -- a report with this status is right
+    pub answers_reply : (status : Status) (text : List ℕ) → Right (record { status = status; out = text; err = [] }) → IsTrue (is_answer status)
+        → (given : Status) → given ≡ status → (result : Result Status Refused) → Replies given text result old new → Answers Right result old new
+    answers_reply status text right answers given same (Ok answer) (is, written, unchanged) =
+        subst (λ (answer : Status). Answers Right (Ok answer) old new) (sym (is ∙ same))
+        (record { ends = ends_sent (record { status = status; out = text; err = [] }) right written unchanged answers refl; no_input = (answer_is_none status answers).input })
+    answers_reply status text right answers given same (Err refusal) (is, part, rises) =
+        subst (λ (refusal : Refused). Answers Right (Err refusal) old new) (sym is)
+        (record { ends = ends_broken (record { status = status; out = text; err = [] }) right part rises; no_input = refl })
 
   pub answers_refused : (refusal : Refusal) (which : Which) → IsTrue (is_of_text refusal) → OnTrue (has_cause (status_of refusal)) (which ≡ Only)
-      → IsExplained Right which refusal → (written : Option (List ℕ)) (faults : ℕ) → Answers Right (Err (of refusal which)) written faults written faults
-  answers_refused refusal which own none explained written faults =
-      record { ends = ends_refused written written faults faults refusal which (text_is_of_taking refusal own) none explained (nothing_told written) refl; no_input = text_no_input refusal own }
+      → IsExplained Right which refusal → (out : Stream) → Answers Right (Err (of refusal which)) out out
+  answers_refused refusal which own none explained out =
+      record { ends = ends_refused out out refusal which (text_is_of_taking refusal own) none explained (nothing_told out.written) refl; no_input = text_no_input refusal own }
 
   -- of the one file that is read, or of none
-  pub answers_only : (refusal : Refusal) → IsTrue (is_of_text refusal) → IsExplained Right Only refusal → (written : Option (List ℕ)) (faults : ℕ)
-      → Answers Right (Err (only refusal)) written faults written faults
+  pub answers_only : (refusal : Refusal) → IsTrue (is_of_text refusal) → IsExplained Right Only refusal → (out : Stream) → Answers Right (Err (only refusal)) out out
   answers_only refusal own explained = answers_refused refusal Only own (on_true (has_cause (status_of refusal)) refl) explained
 
 -- what every right outcome has
@@ -215,7 +224,7 @@ module _ {One Other : Outcome → Type 0} (moves : (outcome : Outcome) → One o
   pub stops_moved : (old new : Option (List ℕ)) → StopsWithin One old new → StopsWithin Other old new
   stops_moved old new some = (some.0, moves some.0 some.1, some.2)
 
-  pub moved : {result : Result Status Refused} {old new : Option (List ℕ)} {before after : ℕ} → Ends One result old before new after → Ends Other result old before new after
+  pub moved : {result : Result Status Refused} {old new : Stream} → Ends One result old new → Ends Other result old new
   moved {result = result} is = record {
     right = on_true_weaker (is_determined (ending result)) ends_moved is.right;
     answer = is.answer;
@@ -226,8 +235,8 @@ module _ {One Other : Outcome → Type 0} (moves : (outcome : Outcome) → One o
     of_none = is.of_none;
   }
 
-pub answers_moved : {One Other : Outcome → Type 0} (moves : (outcome : Outcome) → One outcome → Other outcome) {result : Result Status Refused} {old new : Option (List ℕ)} {before after : ℕ}
-    → Answers One result old before new after → Answers Other result old before new after
+pub answers_moved : {One Other : Outcome → Type 0} (moves : (outcome : Outcome) → One outcome → Other outcome) {result : Result Status Refused} {old new : Stream}
+    → Answers One result old new → Answers Other result old new
 answers_moved moves is = record { ends = moved moves is.ends; no_input = is.no_input }
 
 -- ---- what was read
@@ -242,22 +251,21 @@ no_input_refusal (Err refused) not = by refused.refusal not
     by Read not = absurd (true≢false not)
     by _ not = (refl, refl)
 
-module _ {T : Type 0} (Right : Outcome → Type 0) (Left : Outside → Outside → List ℕ → Type 0) {name : List ℕ} (others : List (List ℕ)) {told told' : Option Disk}
-    {asked asked' : Option (List (List ℕ))} {opened opened' read read' : ℕ} (refusal : Refusal)
-    (takes : Takes {T = T} name (Err refusal) (of_files told asked opened read) (of_files told' asked' opened' read')) (written : Option (List ℕ)) (faults : ℕ) where
+module _ {T : Type 0} (Right : Outcome → Type 0) (Left : Outside → Outside → List ℕ → Type 0) {name : List ℕ} (others : List (List ℕ)) {old new : Outside} (refusal : Refusal)
+    (takes : Takes {T = T} name (Err refusal) old new) (out : Stream) where
   abbrev before : Outside
-  before = outside told asked opened read written faults
+  before = with_output old out
 
   abbrev after : Outside
-  after = outside told' asked' opened' read' written faults
+  after = with_output new out
 
   -- the first file failed, or is refused
   untaken : (which : Which) → OnTrue (has_cause (status_of refusal)) (which ≡ Only) → IsExplained Right which refusal → Left before after []
       → Performs Right Left (name ∷ others) (Err (of refusal which)) before after
   untaken which none explained left =
-      let some : (bytes : List ℕ) × Left before after bytes × Appends written written bytes = ([], left, nothing_told written) in
+      let some : (bytes : List ℕ) × Left before after bytes × Appends out.written out.written bytes = ([], left, nothing_told out.written) in
       record {
-        ends = ends_refused Right written written faults faults refusal which takes.taking none explained (nothing_told written) refl;
+        ends = ends_refused Right out out refusal which takes.taking none explained (nothing_told out.written) refl;
         left = on_true _ some;
         asked = (1, takes.asked);
         input = input_of refusal _ _ _ _ takes.taking takes.opened takes.read;
@@ -273,15 +281,14 @@ module _ {T : Type 0} (Right : Outcome → Type 0) (Left : Outside → Outside �
   performs_only explained left = untaken Only (on_true (has_cause (status_of refusal)) refl) explained left
 
 -- no file is asked for
-pub performs_none : {Right : Outcome → Type 0} {Left : Outside → Outside → List ℕ → Type 0} {result : Result Status Refused} {old new : Option (List ℕ)} {before after : ℕ} (names : List (List ℕ))
-    (told : Option Disk) (asked : Option (List (List ℕ))) (open_faults read_faults : ℕ) → Answers Right result old before new after
-    → Performs Right Left names result (outside told asked open_faults read_faults old before) (outside told asked open_faults read_faults new after)
-performs_none {result = result} names told asked open_faults read_faults is =
+pub performs_none : {Right : Outcome → Type 0} {Left : Outside → Outside → List ℕ → Type 0} {result : Result Status Refused} {old new : Stream} (names : List (List ℕ)) (files : Outside)
+    → Answers Right result old new → Performs Right Left names result (with_output files old) (with_output files new)
+performs_none {result = result} names files is =
     let none = no_input_refusal result is.no_input in
     record {
       ends = is.ends;
       left = rw is.no_input tt;
-      asked = asks_no_prefix asked names;
+      asked = asks_no_prefix files.asked names;
       input = no_cause (ending result) _ _ _ _ is.no_input (refl, refl);
       opened = rw none.0 tt;
       read = rw none.1 tt;

@@ -2,9 +2,9 @@
 use Rattle.dcv_cli.proofs.Common.{◌≡◌, ◌≢◌, ◌⊎◌, ℕ, ◌<◌, ◌≤◌, Bool, true, false, List, [], ◌∷◌, ◌++◌, length, take, Some, Result, Ok, Err}
 use Rattle.dcv_cli.proofs.Common.{inl, inr, refl, sym, ap, subst, ◌∙◌, arith, append_assoc, length-append, nat_tests, append-nil, IfSome}
 use Rattle.dcv_cli.proofs.Common.{IsTrue, ◌-◌, Asks, held_of, RisesIf, Appends, AppendsPrefix, AppendsStrictPrefix, Word, SomeVerdict}
-use Rattle.dcv_cli.proofs.Common.{GoodLinesAreAnswered, Observer, width_of, KeepsTheRules, AreAnswers, good_letters, Line, TraceFault, Open}
-use Rattle.dcv_cli.proofs.Common.{Trace, Only, Done, Output, HasInputCause, NoneRises, Outcome, Outside, Performs, message_of, only}
-use Rattle.dcv_cli.proofs.Common.{status_of, IsReplay, fault_of_trace, status_of_trace, message_of_trace, FulfilsTrace, LeavesTrace}
+use Rattle.dcv_cli.proofs.Common.{GoodLinesAreAnswered, Observer, width_of, KeepsTheRules, AreAnswers, good_letters, Line, Open}
+use Rattle.dcv_cli.proofs.Common.{Trace, Write, Only, Done, Status, Output, HasInputCause, NoneRises, Outcome, Outside, output_of, Performs, only}
+use Rattle.dcv_cli.proofs.Common.{ending, is_input, OnTrue, has_risen, IsReplay, fault_of_trace, status_of_trace, message_of_trace, FulfilsTrace, LeavesTrace}
 use Rattle.dcv_cli.proofs.Common.{LeavesOfTrace, OfOpen, OfRead}
 use Rattle.std.proofs.Math.Seq.{take-append_seam}
 use Rattle.std.specs.Prelude.{nat_lt, ◌||◌, ◌==◌, ◌^◌}
@@ -15,7 +15,10 @@ use Rattle.dcv_replay.specs.TraceText.{Verdict, Good, Bad, Long, Nothing, HasVer
 use Rattle.dcv_replay.specs.declared.fault.ReplayFault.{ReplayFault}
 use Rattle.dcv_replay.specs.declared.fault.ReplayFault.TheVariants as fault
 use Rattle.dcv_cli.specs.declared.faults.TraceFault.TheVariants.{Empty, Length}
+use Rattle.dcv_cli.specs.declared.refusal.Refusal.TheVariants.{Read}
+use Rattle.dcv_cli.specs.declared.refused.Refused.{Refused}
 use Rattle.dcv_cli.specs.Ending.{OneRises}
+use Rattle.dcv_cli.specs.Performed.{Ends, is_open_refusal, is_read_refusal}
 use Rattle.dcv_cli.specs.Refusal.{refusal_of_replay}
 use Rattle.dcv_cli.proofs.ThreeEnds.{ends_at_fault, ends_broken, ends_cut, ends_refused, ends_sent, for_any, for_text, fulfils_first}
 
@@ -63,19 +66,23 @@ module _ (observer : Observer) (name : List ℕ) (before after : Outside) where
       subst (λ (bytes : List ℕ). Appends before.written after.written bytes)
       (sym (ran.sends.all ∙ ap (λ left. ran.sends.sent ++ left) (ran.whole no_write) ∙ append-nil ran.sends.sent)) ran.sends.written
 
+  -- the trace alone was asked for, and what is held stays
+  module _ {T : Type 0} {run : Result T ReplayFault} (counts : Counts {T = T} name run before after) where
+    performs : (result : Result Status Refused) → Ends Right result (output_of before) (output_of after)
+        → OnTrue (is_input (ending result)) ((bytes : List ℕ) × LeavesTrace observer name before after bytes × Appends before.written after.written bytes)
+        → HasInputCause (ending result) before.open_faults after.open_faults before.read_faults after.read_faults
+        → OnTrue (is_open_refusal result) (IsTrue (has_risen before.open_faults after.open_faults))
+        → OnTrue (is_read_refusal result) (IsTrue (has_risen before.read_faults after.read_faults))
+        → Performs Right (LeavesTrace observer name) (name ∷ []) result before after
+    performs result ends left input opened read =
+        record { ends = ends; left = left; asked = (1, counts.asked); input = input; opened = opened; read = read; held = counts.held }
+
   pub performs_done : {T : Type 0} (done : T) {replay : ReplayValue} → Ran {T = T} (Ok done) replay → Counts {T = T} name (Ok done) before after
       → Performs Right (LeavesTrace observer name) (name ∷ []) (Ok Done) before after
   performs_done done ran counts =
       let traced = ran.traced refl in
-      record {
-        ends = ends_sent Right _ _ _ _ Done ran.text (right_for traced.trace (Good ran.letters) ran.text traced.there traced.verdict ran.answers) refl (written_whole ran refl) counts.faults;
-        left = tt;
-        asked = (1, counts.asked);
-        input = (counts.opened, counts.read);
-        opened = tt;
-        read = tt;
-        held = counts.held;
-      }
+      let right = right_for traced.trace (Good ran.letters) ran.text traced.there traced.verdict ran.answers in
+      performs counts (Ok Done) (ends_sent Right _ _ (outcome_of (Good ran.letters) ran.text) right (written_whole ran refl) counts.faults refl refl) tt (counts.opened, counts.read) tt tt
 
   -- a right report that goes on from these answers
   record GoesOn (text : List ℕ) : Type 0 where
@@ -124,70 +131,38 @@ module _ (observer : Observer) (name : List ℕ) (before after : Outside) where
     no_answers : (letters : Word) (text : List ℕ) → letters ≡ [] → AreAnswers observer [] letters text → text ≡ []
     no_answers letters text none answers = subst (λ (word : Word). AreAnswers observer [] word text) none answers
 
-    -- a fault of the trace
-    at_fault : (fault : TraceFault) (text : List ℕ) → Right (record { status = status_of (Trace fault); out = text; err = message_of (only (Trace fault)) })
-        → Appends before.written after.written text → after.faults ≡ before.faults → Asks (name ∷ []) before.asked after.asked → NoneRises before.open_faults after.open_faults before.read_faults after.read_faults
-        → held_of after.told ≡ held_of before.told → Performs Right (LeavesTrace observer name) (name ∷ []) (Err (only (Trace fault))) before after
-    at_fault fault text right written same asked none held = record {
-      ends = ends_at_fault Right _ _ _ _ fault text right written same;
-      left = tt;
-      asked = (1, asked);
-      input = none;
-      opened = tt;
-      read = tt;
-      held = held;
-    }
-
     pub performs_stopped : {T : Type 0} (why : ReplayFault) {replay : ReplayValue} → Ran {T = T} (Err why) replay → Counts {T = T} name (Err why) before after
         → Performs Right (LeavesTrace observer name) (name ∷ []) (Err (only (refusal_of_replay why))) before after
     performs_stopped fault.Open ran counts =
         let silent = subst (λ (bytes : List ℕ). Appends before.written after.written bytes) (no_answers ran.letters ran.text (ran.unopened refl) ran.answers) (written_whole ran refl) in
-        record {
-          ends = ends_refused Right _ _ _ _ Open Only refl refl tt silent counts.faults;
-          left = ([], for_any before.told (λ held. LeavesOfTrace observer name (held 0 name) before after []) (λ held. OfOpen counts.asked counts.opened refl), silent);
-          asked = (1, counts.asked);
-          input = inl (counts.opened, counts.read);
-          opened = counts.opened.risen;
-          read = tt;
-          held = counts.held;
-        }
+        let left = for_any before.told (λ held. LeavesOfTrace observer name (held 0 name) before after []) (λ held. OfOpen counts.asked counts.opened refl) in
+        performs counts (Err (only Open)) (ends_refused Right _ _ Open Only refl refl tt silent counts.faults) ([], left, silent) (inl (counts.opened, counts.read)) counts.opened.risen tt
     performs_stopped fault.Read ran counts =
         let traced = ran.traced refl in
         let on = goes_on traced.trace ran.letters ran.text traced.there traced.verdict ran.answers in
         let written = written_whole ran refl in
         let left = for_text before.told name traced.trace (λ held. LeavesOfTrace observer name (held 0 name) before after ran.text) traced.there
         (λ held is. OfRead counts.asked counts.read traced.trace is (record { letters = ran.letters; cut = traced.cut; answers = ran.answers })) in
-        record {
-          ends = ends_cut Right _ _ _ _ on.outcome on.right (up_to on.outcome ran.text on.rest on.is written) counts.faults;
-          left = (ran.text, left, written);
-          asked = (1, counts.asked);
-          input = inr (counts.opened, counts.read);
-          opened = tt;
-          read = counts.read.risen;
-          held = counts.held;
-        }
+        performs counts (Err (only Read)) (ends_cut Right _ _ on.outcome on.right (up_to on.outcome ran.text on.rest on.is written) counts.faults) (ran.text, left, written)
+        (inr (counts.opened, counts.read)) tt counts.read.risen
     performs_stopped (fault.Line line) ran counts =
         let traced = ran.traced refl in
-        at_fault (Line line) ran.text (right_for traced.trace (Bad ran.letters line) ran.text traced.there traced.verdict ran.answers)
-        (written_whole ran refl) counts.faults counts.asked (counts.opened, counts.read) counts.held
+        let right = right_for traced.trace (Bad ran.letters line) ran.text traced.there traced.verdict ran.answers in
+        performs counts (Err (only (Trace (Line line)))) (ends_at_fault Right _ _ (outcome_of (Bad ran.letters line) ran.text) right (written_whole ran refl) counts.faults (Line line) refl refl)
+        tt (counts.opened, counts.read) tt tt
     performs_stopped fault.TooLong ran counts =
         let traced = ran.traced refl in
-        at_fault Length ran.text (right_for traced.trace (Long ran.letters) ran.text traced.there traced.verdict ran.answers)
-        (written_whole ran refl) counts.faults counts.asked (counts.opened, counts.read) counts.held
+        let right = right_for traced.trace (Long ran.letters) ran.text traced.there traced.verdict ran.answers in
+        performs counts (Err (only (Trace Length))) (ends_at_fault Right _ _ (outcome_of (Long ran.letters) ran.text) right (written_whole ran refl) counts.faults Length refl refl)
+        tt (counts.opened, counts.read) tt tt
     performs_stopped fault.Empty ran counts =
         let traced = ran.traced refl in
-        at_fault Empty ran.text
-        (right_for traced.trace Nothing ran.text traced.there traced.verdict.0 (no_answers ran.letters ran.text traced.verdict.1 ran.answers))
-        (written_whole ran refl) counts.faults counts.asked (counts.opened, counts.read) counts.held
+        let right = right_for traced.trace Nothing ran.text traced.there traced.verdict.0 (no_answers ran.letters ran.text traced.verdict.1 ran.answers) in
+        performs counts (Err (only (Trace Empty))) (ends_at_fault Right _ _ (outcome_of Nothing ran.text) right (written_whole ran refl) counts.faults Empty refl refl)
+        tt (counts.opened, counts.read) tt tt
     performs_stopped fault.Write ran counts =
         let traced = ran.traced refl in
         let on = goes_on traced.trace ran.letters ran.text traced.there traced.verdict ran.answers in
-        record {
-          ends = ends_broken Right _ _ _ _ on.outcome on.right (missing on.outcome ran.text ran.sends.sent ran.left on.rest on.is ran.sends.all (ran.some refl) ran.sends.written) counts.faults;
-          left = tt;
-          asked = (1, counts.asked);
-          input = output_cause before.open_faults after.open_faults before.read_faults after.read_faults counts.opened counts.read;
-          opened = tt;
-          read = tt;
-          held = counts.held;
-        }
+        let part = missing on.outcome ran.text ran.sends.sent ran.left on.rest on.is ran.sends.all (ran.some refl) ran.sends.written in
+        performs counts (Err (only Write)) (ends_broken Right _ _ on.outcome on.right part counts.faults) tt
+        (output_cause before.open_faults after.open_faults before.read_faults after.read_faults counts.opened counts.read) tt tt

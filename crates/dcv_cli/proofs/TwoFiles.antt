@@ -1,6 +1,6 @@
 -- Commands that go on after their first file: what is right for the rest, after that, is right for all.
 use Rattle.dcv_cli.proofs.Common.{◌≡◌, ℕ, List, [], ◌∷◌, Option, None, Some, Result, Ok, refl, sym, ◌∙◌, subst, if◌then◌else◌, Disk}
-use Rattle.dcv_cli.proofs.Common.{held_of, Appends, Texts, ForHeld, IsHeldText, Outcome, Outside, of_files, outside, Answers, Performs}
+use Rattle.dcv_cli.proofs.Common.{held_of, Appends, Texts, ForHeld, IsHeldText, Outcome, Outside, Stream, with_output, Answers, Performs}
 use Rattle.dcv_cli.proofs.Common.{Takes, ending, is_input, Status}
 use Rattle.std.specs.Prelude.{nat_eq}
 use Rattle.dcv_io.proofs.Asking.{asks_further}
@@ -25,31 +25,27 @@ later_held (Some disk) (Some disk') name text P Q same there moves is =
     record { held = λ time. disk.held; same = λ time. refl; holds = moves (λ time. disk.held) is.held there held is.holds }
 
 -- the first file was taken
-module _ {T : Type 0} {value : T} {first : List ℕ} {told told' : Option Disk} {asked asked' : Option (List (List ℕ))} {opened opened' read read' : ℕ}
-    (takes : Takes first (Ok value) (of_files told asked opened read) (of_files told' asked' opened' read')) (written : Option (List ℕ)) (faults : ℕ) where
+module _ {T : Type 0} {value : T} {first : List ℕ} {old mid : Outside} (takes : Takes first (Ok value) old mid) (out : Stream) where
   abbrev before : Outside
-  before = outside told asked opened read written faults
+  before = with_output old out
 
-  abbrev mid : Outside
-  mid = outside told' asked' opened' read' written faults
-
-  -- what is seen after it, with the counts as they were before it
-  abbrev from : Outside
-  from = outside told' asked' opened read written faults
+  -- what is seen after it, with counts that were not seen before it
+  abbrev counted : ℕ → ℕ → Outside
+  counted opened read = record before { told = mid.told; asked = mid.asked; open_faults = opened; read_faults = read }
 
   module _ {One Other : Outcome → Type 0} (moves : (outcome : Outcome) → One outcome → Other outcome) (result : Result Status Refused) where
     pub performs_later : {Left Leaves : Outside → Outside → List ℕ → Type 0} (others : List (List ℕ)) (after : Outside)
-        → ((bytes : List ℕ) → Left from after bytes → Leaves before after bytes)
-        → Performs One Left others result mid after → Performs Other Leaves (first ∷ others) result before after
+        → ((bytes : List ℕ) → Left (counted old.open_faults old.read_faults) after bytes → Leaves before after bytes)
+        → Performs One Left others result (with_output mid out) after → Performs Other Leaves (first ∷ others) result before after
     performs_later {Left = Left} {Leaves = Leaves} others after leaves given =
-        let is = subst (λ n. Performs One Left others result (outside told' asked' opened n written faults) after) takes.read
-        (subst (λ n. Performs One Left others result (outside told' asked' n read' written faults) after) takes.opened given) in
-        let left : (some : (bytes : List ℕ) × Left from after bytes × Appends written after.written bytes)
-        → (bytes : List ℕ) × Leaves before after bytes × Appends written after.written bytes = λ some. (some.0, leaves some.0 some.1, some.2) in
+        let is = subst (λ n. Performs One Left others result (counted old.open_faults n) after) takes.read
+        (subst (λ n. Performs One Left others result (counted n mid.read_faults) after) takes.opened given) in
+        let left : (some : (bytes : List ℕ) × Left (counted old.open_faults old.read_faults) after bytes × Appends out.written after.written bytes)
+        → (bytes : List ℕ) × Leaves before after bytes × Appends out.written after.written bytes = λ some. (some.0, leaves some.0 some.1, some.2) in
         record {
           ends = moved moves is.ends;
           left = on_true_weaker (is_input (ending result)) left is.left;
-          asked = asks_further asked asked' after.asked (first ∷ []) others takes.asked is.asked;
+          asked = asks_further old.asked mid.asked after.asked (first ∷ []) others takes.asked is.asked;
           input = is.input;
           opened = is.opened;
           read = is.read;
@@ -57,8 +53,7 @@ module _ {T : Type 0} {value : T} {first : List ℕ} {told told' : Option Disk} 
         }
 
     -- no other file is read
-    pub performs_answered : {Leaves : Outside → Outside → List ℕ → Type 0} (new : Option (List ℕ)) (after : ℕ) → Answers One result written faults new after
-        → Performs Other Leaves (first ∷ []) result before (outside told' asked' opened' read' new after)
-    performs_answered new after answers =
-        performs_later [] (outside told' asked' opened' read' new after) (λ bytes none. absurd none)
-        (performs_none {Left = λ _ _ _. ⊥} [] told' asked' opened' read' answers)
+    pub performs_answered : {Leaves : Outside → Outside → List ℕ → Type 0} (new : Stream) → Answers One result out new
+        → Performs Other Leaves (first ∷ []) result before (with_output mid new)
+    performs_answered new answers =
+        performs_later [] (with_output mid new) (λ bytes none. absurd none) (performs_none {Left = λ _ _ _. ⊥} [] mid answers)

@@ -2,7 +2,7 @@
 use Rattle.dcv_cli.proofs.Common.{◌≡◌, ◌≢◌, ℕ, zero, suc, ◌+◌, ◌<◌, ◌≤◌, nat_le, Bool, true, false, List, [], ◌∷◌, ◌++◌, length, get_or}
 use Rattle.dcv_cli.proofs.Common.{Option, Some, None, refl, sym, ◌∙◌, subst, arith, append_assoc, length-append, if◌then◌else◌, bytes_eq}
 use Rattle.dcv_cli.proofs.Common.{bytes_eq-Decides, true≢false, IsPlainName, AreNames, texts_of, NamesAreShort, fault_of_goal}
-use Rattle.dcv_cli.proofs.Common.{fault_of_names, ScopeFault, Name, PlainFile, IsFormulaFile}
+use Rattle.dcv_cli.proofs.Common.{fault_of_names, fault_of_file, no_bound_shift, ScopeFault, Name, PlainFile, IsFormulaFile}
 use Rattle.std.proofs.Common.{append-nil}
 use Rattle.std.specs.List.{All, AllPairs}
 use Rattle.std.specs.Option.{option_or}
@@ -11,6 +11,7 @@ use Rattle.std.proofs.lemmas.List.Elements.{All-map}
 use Rattle.std.proofs.lemmas.List.Quantifiers.{all_pairs_push}
 use Rattle.dcv_reader.specs.Laws.{IsShortName}
 use Rattle.dcv_scope.proofs.NameRows.{first_fault-append}
+use Rattle.dcv_scope.specs.Laws.{HasNoBoundShift}
 use Rattle.dcv_scope.specs.Names.{occurs, Declared, fault_at, first_fault, stands_in, nothing_in_sight, occurrences_in_list}
 use Rattle.dcv_scope.specs.declared.faults.ScopeFault.TheVariants.{TooMany, Duplicate}
 
@@ -19,6 +20,10 @@ use Rattle.dcv_scope.specs.declared.faults.ScopeFault.TheVariants.{TooMany, Dupl
 pub none_of_both : (a b : Option ScopeFault) → option_or a b ≡ None → (a ≡ None) × (b ≡ None)
 none_of_both None b e = (refl, e)
 none_of_both (Some a) b e = absurd (cc)
+
+-- so no prior or next proposition of a file without a fault looks at a quantified variable
+pub no_shift_is_bound : (file : PlainFile) → fault_of_file file ≡ None → HasNoBoundShift file
+no_shift_is_bound file none = no_bound_shift file (none_of_both (fault_of_names file) (fault_of_goal file) none).1
 
 few_and_new : (many twice : Bool) (at : ℕ) → (if many then Some (TooMany at) else (if twice then Some (Duplicate at) else None)) ≡ None → (many ≡ false) × (twice ≡ false)
 few_and_new true twice at e = absurd (cc)

@@ -2,9 +2,9 @@
 --     Texts                               what is held under each name, as the first file is opened, which has number 0, and as the next is
 --     OnHeld held name OfText outcome     the outcome is right for the text that is held under the name
 --     IsHeldText told name text           this text is held under the name, where that is told
---     IsTooLongText told name limit       so is one with more bytes than the limit
+--     IsHeldSuch told name P              so is one of which P is true
 --     ForHeld told P                      P of what the files tell that they hold
-use Rattle.std.specs.Prelude.{◌≡◌, ℕ, ◌<◌, List, Option, Some, length, IfSome, IsSomeAnd}
+use Rattle.std.specs.Prelude.{◌≡◌, ℕ, List, Option, Some, IfSome, IsSomeAnd}
 use Rattle.dcv_cli.specs.Common.{Disk, held_of}
 use Rattle.dcv_cli.specs.Outcome.{Outcome}
 
@@ -24,7 +24,7 @@ pub record ForHeld (told : Option Disk) (P : Texts → Type 0) : Type 0 where
 abbrev pub IsHeldText : Option Disk → List ℕ → List ℕ → Type 0
 IsHeldText told name text = IfSome (held_of told) (λ held. held name ≡ Some text)
 
-pub record IsTooLongText (told : Option Disk) (name : List ℕ) (limit : ℕ) : Type 0 where
+pub record IsHeldSuch (told : Option Disk) (name : List ℕ) (P : List ℕ → Type 0) : Type 0 where
   pub text : List ℕ
   pub there : IsHeldText told name text
-  pub longer : limit < length text
+  pub is : P text

@@ -27,7 +27,7 @@ pub mod Promise
 pub mod Laws
 -- what clauses within the crate cite
 pub mod Performed
-pub mod Expanded
-pub mod Judged
+pub mod ReadFile
 pub mod Synthesised
+pub mod FaultWords
 pub mod Replaying

@@ -1,20 +1,20 @@
 -- What each command keeps to, whatever it is asked for. The clauses of `run` are these, with the message.
 --     Takes name result ..             a file was taken, or is refused
 --     ending result, said result       the status of a command, and the line that says why it gives no answer
---     Ends Right result ..             what it has written, and how it ended
+--     Ends Right result old new        what it has written, and how it ended
 --     Performs Right Left names ..     and what it has read
 --     PerformsRequest request ..       it does what the request asks for
 --     Answers Right result ..          it ends so after its last file
 --     Replies status report result ..  the report was written, or a write of it failed
 use Rattle.std.specs.Bool.{OnTrue}
-use Rattle.std.specs.Prelude.{◌≡◌, ℕ, Bool, false, List, [], ◌∷◌, Option, Result, Ok, Err, IsTrue, IsFalse, IfOk, IfErr}
+use Rattle.std.specs.Prelude.{◌≡◌, ℕ, Bool, false, List, [], ◌∷◌, Result, Ok, Err, IsTrue, IsFalse, IfOk, IfErr}
 use Rattle.dcv_cli.specs.Common.{Asks, AsksPrefix}
 use Rattle.dcv_cli.specs.Common.{held_of, has_risen, Rises, RisesIf, Appends, AppendsStrictPrefix, Request, files_of, Refused, Refusal}
 use Rattle.dcv_cli.specs.Common.{Write, Status, Only}
 use Rattle.dcv_cli.specs.Ending.{EndsBy, AddsFront, StopsWithin, Leaves, LeavesNothing, HasInputCause}
 use Rattle.dcv_cli.specs.Held.{ForHeld}
 use Rattle.dcv_cli.specs.Outcome.{Outcome}
-use Rattle.dcv_cli.specs.Outside.{Outside}
+use Rattle.dcv_cli.specs.Outside.{Outside, Stream, output_of}
 use Rattle.dcv_cli.specs.Refusal.{status_of, message_of, only, is_err_and, is_open, is_read, is_of_taking}
 use Rattle.dcv_cli.specs.Right.{FulfilsOver}
 use Rattle.dcv_cli.specs.Status.{has_cause, is_answer, is_determined, is_silent, is_input, is_output}
@@ -47,22 +47,22 @@ is_read_refusal (Ok status) = false
 is_read_refusal (Err refused) = is_read refused.refusal
 
 -- `Right` says which outcomes are right.
-pub record Ends (Right : Outcome → Type 0) (result : Result Status Refused) (old : Option (List ℕ)) (before : ℕ) (new : Option (List ℕ)) (after : ℕ) : Type 0 where
+pub record Ends (Right : Outcome → Type 0) (result : Result Status Refused) (old new : Stream) : Type 0 where
   -- Where the texts determine the end, it is that of a right outcome. A command that answers does so without a message.
-  pub right : OnTrue (is_determined (ending result)) (EndsBy Right (ending result) old new (λ message. message ≡ said result))
+  pub right : OnTrue (is_determined (ending result)) (EndsBy Right (ending result) old.written new.written (λ message. message ≡ said result))
   pub answer : IfOk result (λ status. IsTrue (is_answer status))
   -- Nothing but a front of a right report is written: none of it before a refusal that comes before the first byte, and some of it is
   -- missing where the output fails.
-  pub front : AddsFront Right old new
-  pub silent : OnTrue (is_silent (ending result)) (Appends old new [])
-  pub stops : OnTrue (is_output (ending result)) (StopsWithin Right old new)
-  pub output : RisesIf (is_output (ending result)) before after
+  pub front : AddsFront Right old.written new.written
+  pub silent : OnTrue (is_silent (ending result)) (Appends old.written new.written [])
+  pub stops : OnTrue (is_output (ending result)) (StopsWithin Right old.written new.written)
+  pub output : RisesIf (is_output (ending result)) old.faults new.faults
   -- A refusal that the outside brought about is of no file.
   pub of_none : IfErr result (λ refused. OnTrue (has_cause (status_of refused.refusal)) (refused.which ≡ Only))
 
 -- `Left` says what was written where an input failed, and `names` are the files that are read.
 pub record Performs (Right : Outcome → Type 0) (Left : Outside → Outside → List ℕ → Type 0) (names : List (List ℕ)) (result : Result Status Refused) (before after : Outside) : Type 0 where
-  pub ends : Ends Right result before.written before.faults after.written after.faults
+  pub ends : Ends Right result (output_of before) (output_of after)
   pub left : OnTrue (is_input (ending result)) ((bytes : List ℕ) × Left before after bytes × Appends before.written after.written bytes)
   -- Its files are asked for in order, no fault is passed over, and none is invented.
   pub asked : AsksPrefix names before.asked after.asked
@@ -86,10 +86,10 @@ abbrev pub LeavesOne : List ℕ → Outside → Outside → List ℕ → Type 0
 LeavesOne name before after bytes = ForHeld before.told (λ held. LeavesNothing name before after bytes)
 
 -- no input fails any more
-pub record Answers (Right : Outcome → Type 0) (result : Result Status Refused) (old : Option (List ℕ)) (before : ℕ) (new : Option (List ℕ)) (after : ℕ) : Type 0 where
-  pub ends : Ends Right result old before new after
+pub record Answers (Right : Outcome → Type 0) (result : Result Status Refused) (old new : Stream) : Type 0 where
+  pub ends : Ends Right result old new
   pub no_input : IsFalse (is_input (ending result))
 
-abbrev pub Replies : Status → List ℕ → Result Status Refused → Option (List ℕ) → ℕ → Option (List ℕ) → ℕ → Type 0
-Replies status report (Ok answer) old before new after = (answer ≡ status) × Appends old new report × (after ≡ before)
-Replies status report (Err refused) old before new after = (refused ≡ only Write) × AppendsStrictPrefix old new report × Rises before after
+abbrev pub Replies : Status → List ℕ → Result Status Refused → Stream → Stream → Type 0
+Replies status report (Ok answer) old new = (answer ≡ status) × Appends old.written new.written report × (new.faults ≡ old.faults)
+Replies status report (Err refused) old new = (refused ≡ only Write) × AppendsStrictPrefix old.written new.written report × Rises old.faults new.faults

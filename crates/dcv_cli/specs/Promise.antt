@@ -4,7 +4,9 @@
 --     not_utf8           what is said where the arguments of the process are no text
 use Rattle.std.specs.Bool.{OnTrue}
 use Rattle.std.specs.Prelude.{◌≡◌, ◌⊎◌, ℕ, true, List, [], Option, IsTrue, IsFalse, codes}
-use Rattle.dcv_cli.specs.Common.{Disk, held_of, has_risen, RisesIf}
+use Rattle.dcv_io.specs.declared.files.Files.{Ghosts as WordsOfFiles}
+use Rattle.dcv_io.specs.declared.sink.Sink.{Ghosts as WordsOfSink}
+use Rattle.dcv_cli.specs.Common.{held_of, has_risen, RisesIf}
 use Rattle.dcv_cli.specs.Common.{Appends, line, Request, IsTaken, Status, Usage, Memory}
 use Rattle.clap.specs.Words.{takes}
 use Rattle.dcv_command.specs.Program.{program}
@@ -20,9 +22,10 @@ pub record Seen : Type 0 where
   pub messages : Option (List ℕ)
   pub message_faults : ℕ
 
-abbrev pub seen : Option Disk → Option (List (List ℕ)) → ℕ → ℕ → Option (List ℕ) → ℕ → Option (List ℕ) → ℕ → Seen
-seen told asked open_faults read_faults written faults messages message_faults =
-    record { outside = outside told asked open_faults read_faults written faults; messages = messages; message_faults = message_faults }
+-- of these files, this output and these messages, by the words of their traits
+abbrev pub seen : {F O E : Type 0} → WordsOfFiles F → WordsOfSink O → WordsOfSink E → F → O → E → Seen
+seen files_words out_words err_words files out err =
+    record { outside = outside files_words out_words files out; messages = err_words.written err; message_faults = err_words.faults err }
 
 -- this is the message, or a prefix of it where a write of it failed
 abbrev pub Says : Seen → Seen → List ℕ → Type 0

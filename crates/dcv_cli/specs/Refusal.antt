@@ -15,26 +15,20 @@ use Rattle.dcv_cli.specs.Common.{Table as AutomatonTable, TraceFault, Line, Empt
 use Rattle.dcv_cli.specs.Common.{StatusFormula, StatusBudget, Input, Output, Memory as StatusMemory, StatusAutomaton, StatusTrace}
 use Rattle.dcv_cli.specs.Common.{StatusObserver}
 use Rattle.dcv_automaton_read.specs.declared.faults.AutoFault.{AutoFault}
-use Rattle.dcv_automaton_read.specs.declared.faults.AutoFault.TheVariants.{Syntax as AutoSyntax, Table as AutoTable, Memory as AutoMemory}
+use Rattle.dcv_automaton_read.specs.declared.faults.AutoFault.TheVariants as spelling
 use Rattle.dcv_implies.specs.declared.faults.OutsideFault.{OutsideFault}
-use Rattle.dcv_implies.specs.declared.faults.OutsideFault.TheVariants.{States as OutsideStates, Nodes as OutsideNodes, Memory as OutsideMemory}
-use Rattle.dcv_observer.specs.declared.fault.ObsFault.TheVariants.{Syntax as ObsSyntax, Names as ObsNames, Memory as ObsMemory}
+use Rattle.dcv_implies.specs.declared.faults.OutsideFault.TheVariants as outside
+use Rattle.dcv_observer.specs.declared.fault.ObsFault.TheVariants as observing
 use Rattle.dcv_replay.specs.declared.fault.ReplayFault.{ReplayFault}
-use Rattle.dcv_replay.specs.declared.fault.ReplayFault.TheVariants.{Open as ReplayOpen, Read as ReplayRead, Line as ReplayLine, TooLong as ReplayLong}
-use Rattle.dcv_replay.specs.declared.fault.ReplayFault.TheVariants.{Empty as ReplayEmpty, Write as ReplayWrite}
-use Rattle.dcv_sentence.specs.declared.faults.ReadFault.TheVariants.{Byte as ByteAt, Syntax as SyntaxAt, Number as NumberAt, Name as NameAt, Nest as NestAt, Memory as ReadMemory}
-use Rattle.dcv_scope.specs.declared.faults.ScopeFault.TheVariants.{TooMany as ManyAt, Duplicate as DuplicateAt, Taken as TakenAt, Unknown as UnknownAt}
-use Rattle.dcv_scope.specs.declared.faults.ScopeFault.TheVariants.{Kind as KindAt, Arity as ArityAt, Size as SizeAt, Depth as DepthAt, Slots as SlotsAt}
-use Rattle.dcv_scope.specs.declared.faults.ScopeFault.TheVariants.{BoundShift as ShiftAt}
-use Rattle.dcv_scope.specs.declared.faults.ScopeFault.TheVariants.{Memory as ScopeMemory}
+use Rattle.dcv_replay.specs.declared.fault.ReplayFault.TheVariants as replay
+use Rattle.dcv_sentence.specs.declared.faults.ReadFault.TheVariants as reading
+use Rattle.dcv_scope.specs.declared.faults.ScopeFault.TheVariants as scope
 use Rattle.dcv_cli.specs.declared.refusal.Refusal.TheVariants.{Automaton, Memory}
 use Rattle.dcv_cli.specs.declared.faults.FormulaFault.{FormulaFault}
-use Rattle.dcv_cli.specs.declared.faults.FormulaFault.TheVariants.{Length as FormulaLength, Text}
+use Rattle.dcv_cli.specs.declared.faults.FormulaFault.TheVariants.{Length as FormulaLength, Reading, Scope}
 use Rattle.dcv_cli.specs.declared.faults.AutomatonFault.{AutomatonFault}
 use Rattle.dcv_cli.specs.declared.faults.ObserverFault.{ObserverFault}
 use Rattle.dcv_cli.specs.declared.faults.ObserverFault.TheVariants.{Length as ObserverLength, Syntax as ObserverSyntax, Names as ObserverNames}
-use Rattle.dcv_cli.specs.declared.faults.TextFault.{TextFault}
-use Rattle.dcv_cli.specs.declared.faults.TextFault.TheVariants.{Byte, Syntax, Number, Name, Nest, Many, Duplicate, Taken, Unknown, Kind, Arity, Size, Depth, Slots, Shift}
 use Rattle.dcv_cli.specs.Status.{has_cause}
 
 abbrev pub most_bytes : ℕ
@@ -60,24 +54,6 @@ status_of (Product excess limit) = StatusBudget
 status_of Write = Output
 status_of Memory = StatusMemory
 
--- what a text is refused for, in a word
-abbrev pub text_word_of : TextFault → List ℕ
-text_word_of Byte = codes "byte"
-text_word_of Syntax = codes "syntax"
-text_word_of Number = codes "number"
-text_word_of Name = codes "name"
-text_word_of Nest = codes "nest"
-text_word_of Many = codes "many"
-text_word_of Duplicate = codes "duplicate"
-text_word_of Taken = codes "taken"
-text_word_of Unknown = codes "unknown"
-text_word_of Kind = codes "kind"
-text_word_of Arity = codes "arity"
-text_word_of Size = codes "size"
-text_word_of Depth = codes "depth"
-text_word_of Slots = codes "slots"
-text_word_of Shift = codes "shift"
-
 abbrev pub fault_words : List ℕ → List ℕ
 fault_words word = codes "fault " ++ word
 
@@ -85,10 +61,33 @@ fault_words word = codes "fault " ++ word
 abbrev pub fault_words_at : List ℕ → ℕ → List ℕ
 fault_words_at word at = fault_words word ++ codes " at " ++ decimal at
 
+-- memory is a refusal of its own
+abbrev pub reading_words : ReadFault → List ℕ
+reading_words (reading.Byte at) = fault_words_at (codes "byte") at
+reading_words (reading.Syntax at) = fault_words_at (codes "syntax") at
+reading_words (reading.Number at) = fault_words_at (codes "number") at
+reading_words (reading.Name at) = fault_words_at (codes "name") at
+reading_words (reading.Nest at) = fault_words_at (codes "nest") at
+reading_words reading.Memory = fault_words (codes "memory")
+
+abbrev pub scope_words : ScopeFault → List ℕ
+scope_words (scope.TooMany at) = fault_words_at (codes "many") at
+scope_words (scope.Duplicate at) = fault_words_at (codes "duplicate") at
+scope_words (scope.Taken at) = fault_words_at (codes "taken") at
+scope_words (scope.Unknown at) = fault_words_at (codes "unknown") at
+scope_words (scope.Kind at) = fault_words_at (codes "kind") at
+scope_words (scope.Arity at) = fault_words_at (codes "arity") at
+scope_words (scope.Size at) = fault_words_at (codes "size") at
+scope_words (scope.Depth at) = fault_words_at (codes "depth") at
+scope_words (scope.Slots at) = fault_words_at (codes "slots") at
+scope_words (scope.BoundShift at) = fault_words_at (codes "shift") at
+scope_words scope.Memory = fault_words (codes "memory")
+
 -- A file that is too long is at fault after the last byte that a file may have.
 abbrev pub formula_words : FormulaFault → List ℕ
 formula_words FormulaLength = fault_words_at (codes "length") most_bytes
-formula_words (Text fault at) = fault_words_at (text_word_of fault) at
+formula_words (Reading fault) = reading_words fault
+formula_words (Scope fault) = scope_words fault
 formula_words Declarations = fault_words (codes "declarations")
 formula_words Outputs = fault_words (codes "outputs")
 
@@ -155,48 +154,35 @@ end_of First = codes " in first\n"
 end_of Second = codes " in second\n"
 
 abbrev pub refusal_of_automaton : AutoFault → Refusal
-refusal_of_automaton (AutoSyntax at) = Automaton (AutomatonSyntax at)
-refusal_of_automaton (AutoTable at) = Automaton (AutomatonTable at)
-refusal_of_automaton AutoMemory = Memory
+refusal_of_automaton (spelling.Syntax at) = Automaton (AutomatonSyntax at)
+refusal_of_automaton (spelling.Table at) = Automaton (AutomatonTable at)
+refusal_of_automaton spelling.Memory = Memory
 
 abbrev pub refusal_of_observer : ObsFault → Refusal
-refusal_of_observer (ObsSyntax at) = Observer (ObserverSyntax at)
-refusal_of_observer (ObsNames at) = Observer (ObserverNames at)
-refusal_of_observer ObsMemory = Memory
+refusal_of_observer (observing.Syntax at) = Observer (ObserverSyntax at)
+refusal_of_observer (observing.Names at) = Observer (ObserverNames at)
+refusal_of_observer observing.Memory = Memory
 
 abbrev pub refusal_of_replay : ReplayFault → Refusal
-refusal_of_replay ReplayOpen = Open
-refusal_of_replay ReplayRead = Read
-refusal_of_replay (ReplayLine line) = Trace (Line line)
-refusal_of_replay ReplayLong = Trace TraceLength
-refusal_of_replay ReplayEmpty = Trace Empty
-refusal_of_replay ReplayWrite = Write
+refusal_of_replay replay.Open = Open
+refusal_of_replay replay.Read = Read
+refusal_of_replay (replay.Line line) = Trace (Line line)
+refusal_of_replay replay.TooLong = Trace TraceLength
+refusal_of_replay replay.Empty = Trace Empty
+refusal_of_replay replay.Write = Write
 
 abbrev pub refusal_of_outside : OutsideFault → Refusal
-refusal_of_outside (OutsideStates limit) = Product States limit
-refusal_of_outside (OutsideNodes limit) = Product Nodes limit
-refusal_of_outside OutsideMemory = Memory
+refusal_of_outside (outside.States limit) = Product States limit
+refusal_of_outside (outside.Nodes limit) = Product Nodes limit
+refusal_of_outside outside.Memory = Memory
 
 abbrev pub refusal_of_reading : ReadFault → Refusal
-refusal_of_reading (ByteAt at) = Formula (Text Byte at)
-refusal_of_reading (SyntaxAt at) = Formula (Text Syntax at)
-refusal_of_reading (NumberAt at) = Formula (Text Number at)
-refusal_of_reading (NameAt at) = Formula (Text Name at)
-refusal_of_reading (NestAt at) = Formula (Text Nest at)
-refusal_of_reading ReadMemory = Memory
+refusal_of_reading reading.Memory = Memory
+refusal_of_reading fault = Formula (Reading fault)
 
 abbrev pub refusal_of_scope : ScopeFault → Refusal
-refusal_of_scope (ManyAt at) = Formula (Text Many at)
-refusal_of_scope (DuplicateAt at) = Formula (Text Duplicate at)
-refusal_of_scope (TakenAt at) = Formula (Text Taken at)
-refusal_of_scope (UnknownAt at) = Formula (Text Unknown at)
-refusal_of_scope (KindAt at) = Formula (Text Kind at)
-refusal_of_scope (ArityAt at) = Formula (Text Arity at)
-refusal_of_scope (SizeAt at) = Formula (Text Size at)
-refusal_of_scope (DepthAt at) = Formula (Text Depth at)
-refusal_of_scope (SlotsAt at) = Formula (Text Slots at)
-refusal_of_scope (ShiftAt at) = Formula (Text Shift at)
-refusal_of_scope ScopeMemory = Memory
+refusal_of_scope scope.Memory = Memory
+refusal_of_scope fault = Formula (Scope fault)
 
 -- ---- which refusal a call ended with
 

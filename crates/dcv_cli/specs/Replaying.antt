@@ -1,15 +1,13 @@
 -- The two files of a replay, one after the other.
 --     IsReplayOf subset text replay         the replay stands where the observer of the text begins
---     IsReplayIn subset told name replay    that text is held under the name
---     IsRefusedIn subset told name refusal  what is held under the name is no observer's text
 --     FulfilsTrace observer name ..         the outcomes that are right for the trace, by its name
 --     LeavesTrace observer name ..          what was written where the trace failed
 use Rattle.std.specs.Prelude.{◌≡◌, ℕ, List, [], ◌∷◌, Option, Some}
-use Rattle.dcv_cli.specs.Common.{Asks, Disk, Rises, Subset, Observer, Refusal}
+use Rattle.dcv_cli.specs.Common.{Asks, Disk, Rises, Subset, Observer}
 use Rattle.dcv_replay.specs.Observer.{Follows}
 use Rattle.dcv_replay.specs.Program.{ReplayValue}
-use Rattle.dcv_cli.specs.Held.{OnHeld, ForHeld, IsHeldText}
-use Rattle.dcv_cli.specs.ObserverFile.{IsRefusedObserver, IsObserverText}
+use Rattle.dcv_cli.specs.Held.{OnHeld, ForHeld}
+use Rattle.dcv_cli.specs.ObserverFile.{IsObserverText}
 use Rattle.dcv_cli.specs.Outcome.{Outcome}
 use Rattle.dcv_cli.specs.Outside.{Outside}
 use Rattle.dcv_cli.specs.Replayed.{IsReplay, IsCutShort}
@@ -19,16 +17,6 @@ pub record IsReplayOf (subset : Subset) (text : List ℕ) (replay : ReplayValue)
   pub observer : Observer
   pub is : IsObserverText subset text observer
   pub follows : Follows observer [] replay
-
-pub record IsReplayIn (subset : Subset) (told : Option Disk) (name : List ℕ) (replay : ReplayValue) : Type 0 where
-  pub text : List ℕ
-  pub there : IsHeldText told name text
-  pub is : IsReplayOf subset text replay
-
-pub record IsRefusedIn (subset : Subset) (told : Option Disk) (name : List ℕ) (refusal : Refusal) : Type 0 where
-  pub text : List ℕ
-  pub there : IsHeldText told name text
-  pub refused : IsRefusedObserver subset text refusal
 
 -- ---- after the observer
 

@@ -1,15 +1,13 @@
 // What is said of the first step of a goal that is over the limits.
-ghost use Rattle.std.specs.Prelude.{◌≡◌, is_err, OnOk, OnErr};
-ghost use Rattle.dcv_io.specs.Faults.{RisesIf};
-ghost use Rattle.dcv_io.specs.Written.{Appends, AppendsPrefix};
+ghost use Rattle.std.specs.Prelude.{◌≡◌};
+ghost use Rattle.dcv_io.specs.Putting.{Puts};
 ghost use Rattle.dcv_cli.specs.Refusal.{excess_word_of, over_words, product_words};
 
-use crate::line::write_pieces;
-use dcv_io::{Failed, Sink};
+use dcv_io::{Target, put_pieces};
 use itoa::Buffer;
 
 /// What a step has too many of.
-#[derive(Clone, Copy, Debug, PartialEq, Eq)]
+#[derive(Clone, Copy)]
 pub enum Excess {
     /// States of the machine that is explored for it.
     States,
@@ -31,7 +29,7 @@ impl Excess {
 
 /// The first step of a goal that is over the limits: what it has more of than the limit, the offset at which its part of the text
 /// begins, and its number, from 0, in the order in which steps are built.
-#[derive(Clone, Copy, Debug, PartialEq, Eq)]
+#[derive(Clone, Copy)]
 pub struct Over {
     /// Which limits it exceeds.
     pub excess: Excess,
@@ -44,11 +42,9 @@ pub struct Over {
 }
 
 impl Over {
-    /// Writes the words that say so. It takes no memory.
-    pub fn tell<S: Sink>(self, sink: &mut S) -> Result<(), Failed>
-        ensures ok { OnOk result (Appends (S.written sink.old) (S.written sink.new) (over_words self)) }
-        ensures failed { OnErr result (AppendsPrefix (S.written sink.old) (S.written sink.new) (over_words self)) }
-        ensures faults { RisesIf (is_err result) (S.faults sink.old) (S.faults sink.new) }
+    /// Puts the words that say so. It takes no memory.
+    pub fn put<T: Target>(self, target: &mut T)
+        ensures { Puts (T.standing target.old) (T.standing target.new) (over_words self) }
     {
         let (mut limit, mut at, mut step) = (Buffer::new(), Buffer::new(), Buffer::new());
         let pieces: [&[u8]; 8] = [
@@ -61,26 +57,23 @@ impl Over {
             b" step ",
             step.format(self.step).as_bytes(),
         ];
-        write_pieces(sink, &pieces)
+        put_pieces(target, &pieces);
     }
 }
 
-/// Writes the words that say that the product of two automata has more of this than the limit.
-pub(crate) fn tell_product<S: Sink>(sink: &mut S, excess: Excess, limit: u32) -> Result<(), Failed>
-    ensures ok { OnOk result (Appends (S.written sink.old) (S.written sink.new) (product_words excess limit)) }
-    ensures failed { OnErr result (AppendsPrefix (S.written sink.old) (S.written sink.new) (product_words excess limit)) }
-    ensures faults { RisesIf (is_err result) (S.faults sink.old) (S.faults sink.new) }
+/// Puts the words that say that the product of two automata has more of this than the limit.
+pub(crate) fn put_product<T: Target>(target: &mut T, excess: Excess, limit: u32)
+    ensures { Puts (T.standing target.old) (T.standing target.new) (product_words excess limit) }
 {
     let mut digits = Buffer::new();
-    let number = digits.format(limit);
-    write_pieces(
-        sink,
+    put_pieces(
+        target,
         &[
             b"budget ",
             excess.word(),
             b" ",
-            number.as_bytes(),
+            digits.format(limit).as_bytes(),
             b" in product",
         ],
-    )
+    );
 }

@@ -32,7 +32,7 @@ impl AutomatonCommand for Certifier {
 }
 
 /// What is said of an automaton with so many states.
-#[derive(Clone, Copy, Debug, PartialEq, Eq)]
+#[derive(Clone, Copy)]
 pub(crate) struct Certified {
     // how many states the automaton has
     states: u32,

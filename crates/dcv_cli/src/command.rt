@@ -1,20 +1,20 @@
 // The roads of commands over one file: a formula file, or the text of an automaton.
 ghost use Rattle.std.specs.Prelude.{ℕ, List, [], ◌∷◌, ◌≤◌, length, IfOk, IfErr, IsTrue};
 ghost use Rattle.dcv_syntax.specs.Plain.{PlainFile};
-ghost use Rattle.dcv_cli.specs.Expanded.{IsExpanded, IsExpandedText};
-ghost use Rattle.dcv_cli.specs.FormulaFile.{IsFormulaFile, OnText};
+ghost use Rattle.dcv_cli.specs.FormulaFile.{OnText};
 ghost use Rattle.dcv_cli.specs.Outcome.{Outcome};
 ghost use Rattle.dcv_cli.specs.Performed.{Answers, LeavesOne, Performs};
 ghost use Rattle.dcv_cli.specs.Held.{ForHeld, OnHeld};
-ghost use Rattle.dcv_cli.specs.Outside.{outside};
+ghost use Rattle.dcv_cli.specs.Outside.{outside, stream};
+ghost use Rattle.dcv_cli.specs.ReadFile.{IsRead, WasRead};
 ghost use Rattle.dcv_automaton_text.specs.File.{AutomatonFile};
 ghost use Rattle.dcv_cli.specs.AutomatonFile.{IsAutomatonText, IsRefusedAutomaton, OnAutomaton};
 ghost use Rattle.std.specs.Bool.{OnTrue};
 ghost use Rattle.dcv_cli.specs.Refusal.{most_automaton_bytes, is_of_text, status_of};
 ghost use Rattle.dcv_cli.specs.Status.{is_determined};
 
-use crate::expanded::{Expanded, expanded_file};
 use crate::faults::{AutomatonFault, MOST_AUTOMATON_BYTES};
+use crate::formula_file::FormulaFile;
 use crate::refusal::Refusal;
 use crate::refused::{Ended, Which};
 use crate::text::take;
@@ -31,11 +31,11 @@ pub(crate) trait FormulaCommand {
     ghost right: { Self → PlainFile → Outcome → Type 0 };
 
     /// Answers for the file.
-    fn answer<O: Sink>(&self, alloc: Global, formula: Expanded, out: &mut O) -> Ended
+    fn answer<O: Sink>(&self, alloc: Global, formula: &FormulaFile, out: &mut O) -> Ended
         requires fits { fits self.now }
-        requires formula { (text : List ℕ) × IsExpandedText text formula }
-        ensures { (text : List ℕ) (file : PlainFile) → IsFormulaFile text file → IsExpanded file formula
-            → Answers (right self.now file) result (O.written out.old) (O.faults out.old) (O.written out.new) (O.faults out.new) };
+        requires formula { WasRead formula.now }
+        ensures { (text : List ℕ) (file : PlainFile) → IsRead text file formula.now
+            → Answers (right self.now file) result (stream O.Sink out.old) (stream O.Sink out.new) };
 }
 
 /// Answers for the file of this name, which is the one, or this of two, that the request reads.
@@ -50,11 +50,10 @@ pub(crate) fn over_formula<C: FormulaCommand, F: Files, O: Sink>(
     requires { C.fits command.now }
     ensures { Performs (λ outcome. ForHeld (F.told files.old) (λ held. OnHeld (held 0) name.entry.now (λ text. OnText text which (C.right command.entry.now)) outcome))
         (LeavesOne name.entry.now) (name.entry.now ∷ []) result
-        (outside (F.told files.old) (F.asked files.old) (F.open_faults files.old) (F.read_faults files.old) (O.written out.old) (O.faults out.old))
-        (outside (F.told files.new) (F.asked files.new) (F.open_faults files.new) (F.read_faults files.new) (O.written out.new) (O.faults out.new)) }
+        (outside F.Files O.Sink files.old out.old) (outside F.Files O.Sink files.new out.new) }
 {
-    match expanded_file(alloc, files, name) {
-        Ok(formula) => command.answer(alloc, formula, out),
+    match FormulaFile::take(alloc, files, name) {
+        Ok(formula) => command.answer(alloc, &formula, out),
         Err(refusal) => Err(refusal.in_file(which)),
     }
 }
@@ -67,7 +66,7 @@ pub(crate) trait AutomatonCommand {
     /// Answers for the text.
     fn answer<O: Sink>(&self, alloc: Global, text: &[u8], file: &AutoFile, out: &mut O) -> Ended
         requires { IsAutomatonText text.now file.now }
-        ensures { Answers (right self.now file.now) result (O.written out.old) (O.faults out.old) (O.written out.new) (O.faults out.new) };
+        ensures { Answers (right self.now file.now) result (stream O.Sink out.old) (stream O.Sink out.new) };
 }
 
 /// Answers for the text in the file of this name.
@@ -80,8 +79,7 @@ pub(crate) fn over_automaton<C: AutomatonCommand, F: Files, O: Sink>(
 ) -> Ended
     ensures { Performs (λ outcome. ForHeld (F.told files.old) (λ held. OnHeld (held 0) name.entry.now (λ text. OnAutomaton text (C.right command.entry.now)) outcome))
         (LeavesOne name.entry.now) (name.entry.now ∷ []) result
-        (outside (F.told files.old) (F.asked files.old) (F.open_faults files.old) (F.read_faults files.old) (O.written out.old) (O.faults out.old))
-        (outside (F.told files.new) (F.asked files.new) (F.open_faults files.new) (F.read_faults files.new) (O.written out.new) (O.faults out.new)) }
+        (outside F.Files O.Sink files.old out.old) (outside F.Files O.Sink files.new out.new) }
 {
     let too_long = Refusal::Automaton(AutomatonFault::Length);
     let text = take(alloc, files, name, MOST_AUTOMATON_BYTES, too_long)?;

@@ -1,12 +1,13 @@
 // What is wrong with a text that a command reads, and what is said then.
-ghost use Rattle.std.specs.Prelude.{◌≡◌, is_err, OnOk, OnErr};
-ghost use Rattle.dcv_io.specs.Faults.{RisesIf};
-ghost use Rattle.dcv_io.specs.Written.{Appends, AppendsPrefix};
-ghost use Rattle.dcv_cli.specs.Refusal.{text_word_of, formula_words, automaton_words, observer_words, trace_words};
-ghost use Rattle.dcv_cli.specs.declared.faults.TraceFault.TheVariants.{Line};
+ghost use Rattle.std.specs.Prelude.{◌≡◌, ◌++◌};
+ghost use Rattle.std.specs.Fmt.{decimal};
+ghost use Rattle.dcv_io.specs.Putting.{Puts};
+ghost use Rattle.dcv_cli.specs.Refusal.{fault_words, formula_words, reading_words, scope_words, automaton_words, observer_words, trace_words};
+ghost use Rattle.dcv_cli.specs.FaultWords.{words_in};
 
-use crate::line::{tell_fault, tell_fault_at, write_pieces};
-use dcv_io::{Failed, Sink};
+use dcv_io::{Target, put_pieces};
+use dcv_reader::ReadFault;
+use dcv_scope::ScopeFault;
 use itoa::Buffer;
 
 /// The most bytes that a formula file has.
@@ -18,73 +19,15 @@ pub const MOST_AUTOMATON_BYTES: u32 = 134_217_728;
 /// The most bytes that the text of an observer has.
 pub const MOST_OBSERVER_BYTES: u32 = 134_217_728;
 
-/// What is wrong with a text, at some place of it.
-#[derive(Clone, Copy, Debug, PartialEq, Eq)]
-pub enum TextFault {
-    /// No token, white space or comment begins there.
-    Byte,
-    /// The tokens up to there begin no formula file.
-    Syntax,
-    /// A number is too large.
-    Number,
-    /// A name is too long.
-    Name,
-    /// A definition or the goal is nested too deeply.
-    Nest,
-    /// A name is one too many of its list, or of the macros.
-    Many,
-    /// A name stands in its list a second time.
-    Duplicate,
-    /// A name is that of a macro, or a macro's that of a variable.
-    Taken,
-    /// A name has no meaning there.
-    Unknown,
-    /// A name has another kind than is asked for there.
-    Kind,
-    /// A name is used with another number of arguments than it has parameters.
-    Arity,
-    /// The goal with its macros in place has too many nodes.
-    Size,
-    /// The goal with its macros in place is nested too deeply.
-    Depth,
-    /// The goal has too many variables, declared and quantified, with one for each prior or next proposition.
-    Slots,
-    /// A prior or next proposition looks at a quantified variable.
-    Shift,
-}
-
-impl TextFault {
-    // What it is, in a word.
-    fn word(self) -> &'static [u8]
-        ensures { result.now ≡ text_word_of self }
-    {
-        match self {
-            TextFault::Byte => b"byte",
-            TextFault::Syntax => b"syntax",
-            TextFault::Number => b"number",
-            TextFault::Name => b"name",
-            TextFault::Nest => b"nest",
-            TextFault::Many => b"many",
-            TextFault::Duplicate => b"duplicate",
-            TextFault::Taken => b"taken",
-            TextFault::Unknown => b"unknown",
-            TextFault::Kind => b"kind",
-            TextFault::Arity => b"arity",
-            TextFault::Size => b"size",
-            TextFault::Depth => b"depth",
-            TextFault::Slots => b"slots",
-            TextFault::Shift => b"shift",
-        }
-    }
-}
-
 /// Why a text is no formula file.
-#[derive(Clone, Copy, Debug, PartialEq, Eq)]
+#[derive(Clone, Copy)]
 pub enum FormulaFault {
     /// It is longer than a formula file may be.
     Length,
-    /// The part that begins at this offset shows it.
-    Text { fault: TextFault, at: u32 },
+    /// It is no sentence.
+    Reading(ReadFault),
+    /// It is one, and has no core.
+    Scope(ScopeFault),
     /// Its variables are not those of the file with which it is compared.
     Declarations,
     /// It declares fewer variables than are to be inputs, or too many others.
@@ -92,23 +35,22 @@ pub enum FormulaFault {
 }
 
 impl FormulaFault {
-    /// Writes the words that say so.
-    pub fn tell<S: Sink>(self, sink: &mut S) -> Result<(), Failed>
-        ensures ok { OnOk result (Appends (S.written sink.old) (S.written sink.new) (formula_words self)) }
-        ensures failed { OnErr result (AppendsPrefix (S.written sink.old) (S.written sink.new) (formula_words self)) }
-        ensures faults { RisesIf (is_err result) (S.faults sink.old) (S.faults sink.new) }
+    /// The words that say so.
+    pub fn words(self) -> FaultWords
+        ensures { words_in result ≡ formula_words self }
     {
         match self {
-            FormulaFault::Length => tell_fault_at(sink, b"length", MOST_BYTES),
-            FormulaFault::Text { fault, at } => tell_fault_at(sink, fault.word(), at),
-            FormulaFault::Declarations => tell_fault(sink, b"declarations"),
-            FormulaFault::Outputs => tell_fault(sink, b"outputs"),
+            FormulaFault::Length => placed(b"length at ", MOST_BYTES),
+            FormulaFault::Reading(fault) => words_of_reading(fault),
+            FormulaFault::Scope(fault) => words_of_scope(fault),
+            FormulaFault::Declarations => alone(b"declarations"),
+            FormulaFault::Outputs => alone(b"outputs"),
         }
     }
 }
 
 /// Why a text is no automaton's.
-#[derive(Clone, Copy, Debug, PartialEq, Eq)]
+#[derive(Clone, Copy)]
 pub enum AutomatonFault {
     /// It is longer than such a text may be.
     Length,
@@ -119,22 +61,20 @@ pub enum AutomatonFault {
 }
 
 impl AutomatonFault {
-    /// Writes the words that say so.
-    pub fn tell<S: Sink>(self, sink: &mut S) -> Result<(), Failed>
-        ensures ok { OnOk result (Appends (S.written sink.old) (S.written sink.new) (automaton_words self)) }
-        ensures failed { OnErr result (AppendsPrefix (S.written sink.old) (S.written sink.new) (automaton_words self)) }
-        ensures faults { RisesIf (is_err result) (S.faults sink.old) (S.faults sink.new) }
+    /// The words that say so.
+    pub fn words(self) -> FaultWords
+        ensures { words_in result ≡ automaton_words self }
     {
         match self {
-            AutomatonFault::Length => tell_fault(sink, b"automaton length"),
-            AutomatonFault::Syntax { at } => tell_fault_at(sink, b"automaton syntax", at),
-            AutomatonFault::Table { at } => tell_fault_at(sink, b"automaton table", at),
+            AutomatonFault::Length => alone(b"automaton length"),
+            AutomatonFault::Syntax { at } => placed(b"automaton syntax at ", at),
+            AutomatonFault::Table { at } => placed(b"automaton table at ", at),
         }
     }
 }
 
 /// Why a text is no observer's.
-#[derive(Clone, Copy, Debug, PartialEq, Eq)]
+#[derive(Clone, Copy)]
 pub enum ObserverFault {
     /// It is longer than such a text may be.
     Length,
@@ -145,22 +85,20 @@ pub enum ObserverFault {
 }
 
 impl ObserverFault {
-    /// Writes the words that say so.
-    pub fn tell<S: Sink>(self, sink: &mut S) -> Result<(), Failed>
-        ensures ok { OnOk result (Appends (S.written sink.old) (S.written sink.new) (observer_words self)) }
-        ensures failed { OnErr result (AppendsPrefix (S.written sink.old) (S.written sink.new) (observer_words self)) }
-        ensures faults { RisesIf (is_err result) (S.faults sink.old) (S.faults sink.new) }
+    /// The words that say so.
+    pub fn words(self) -> FaultWords
+        ensures { words_in result ≡ observer_words self }
     {
         match self {
-            ObserverFault::Length => tell_fault(sink, b"observer length"),
-            ObserverFault::Syntax { at } => tell_fault_at(sink, b"observer syntax", at),
-            ObserverFault::Names { at } => tell_fault_at(sink, b"observer names", at),
+            ObserverFault::Length => alone(b"observer length"),
+            ObserverFault::Syntax { at } => placed(b"observer syntax at ", at),
+            ObserverFault::Names { at } => placed(b"observer names at ", at),
         }
     }
 }
 
 /// What is wrong with a trace, after its good lines.
-#[derive(Clone, Copy, Debug, PartialEq, Eq)]
+#[derive(Clone, Copy)]
 pub enum TraceFault {
     /// The line with this number, counted from 1, is no line of the observer's inputs.
     Line { line: u32 },
@@ -171,27 +109,98 @@ pub enum TraceFault {
 }
 
 impl TraceFault {
-    /// Writes the words that say so.
-    pub fn tell<S: Sink>(self, sink: &mut S) -> Result<(), Failed>
-        ensures ok { OnOk result (Appends (S.written sink.old) (S.written sink.new) (trace_words self)) }
-        ensures failed { OnErr result (AppendsPrefix (S.written sink.old) (S.written sink.new) (trace_words self)) }
-        ensures faults { RisesIf (is_err result) (S.faults sink.old) (S.faults sink.new) }
+    /// The words that say so.
+    pub fn words(self) -> FaultWords
+        ensures { words_in result ≡ trace_words self }
     {
         match self {
-            TraceFault::Line { line } => tell_line(sink, line),
-            TraceFault::Empty => tell_fault(sink, b"trace empty"),
-            TraceFault::Length => tell_fault(sink, b"trace length"),
+            TraceFault::Line { line } => placed(b"line ", line),
+            TraceFault::Empty => alone(b"trace empty"),
+            TraceFault::Length => alone(b"trace length"),
         }
     }
 }
 
-// Writes the words of a fault of the line with this number.
-fn tell_line<S: Sink>(sink: &mut S, line: u32) -> Result<(), Failed>
-    ensures ok { OnOk result (Appends (S.written sink.old) (S.written sink.new) (trace_words (Line line))) }
-    ensures failed { OnErr result (AppendsPrefix (S.written sink.old) (S.written sink.new) (trace_words (Line line))) }
-    ensures faults { RisesIf (is_err result) (S.faults sink.old) (S.faults sink.new) }
+// The words of a fault of a text that is no sentence.
+fn words_of_reading(fault: ReadFault) -> FaultWords
+    ensures { words_in result ≡ reading_words fault }
 {
-    let mut number = Buffer::new();
-    let digits = number.format(line);
-    write_pieces(sink, &[b"fault line ", digits.as_bytes()])
+    match fault {
+        ReadFault::Byte { at } => placed(b"byte at ", at),
+        ReadFault::Syntax { at } => placed(b"syntax at ", at),
+        ReadFault::Number { at } => placed(b"number at ", at),
+        ReadFault::Name { at } => placed(b"name at ", at),
+        ReadFault::Nest { at } => placed(b"nest at ", at),
+        ReadFault::Memory => alone(b"memory"),
+    }
+}
+
+// The words of a fault of names or of the goal.
+fn words_of_scope(fault: ScopeFault) -> FaultWords
+    ensures { words_in result ≡ scope_words fault }
+{
+    match fault {
+        ScopeFault::TooMany { at } => placed(b"many at ", at),
+        ScopeFault::Duplicate { at } => placed(b"duplicate at ", at),
+        ScopeFault::Taken { at } => placed(b"taken at ", at),
+        ScopeFault::Unknown { at } => placed(b"unknown at ", at),
+        ScopeFault::Kind { at } => placed(b"kind at ", at),
+        ScopeFault::Arity { at } => placed(b"arity at ", at),
+        ScopeFault::Size { at } => placed(b"size at ", at),
+        ScopeFault::Depth { at } => placed(b"depth at ", at),
+        ScopeFault::Slots { at } => placed(b"slots at ", at),
+        ScopeFault::BoundShift { at } => placed(b"shift at ", at),
+        ScopeFault::Memory => alone(b"memory"),
+    }
+}
+
+/// What a line says of a fault.
+#[derive(Clone, Copy)]
+pub struct FaultWords {
+    // what is wrong
+    word: &'static [u8],
+    // the offset or the line that shows it
+    number: Option<u32>,
+}
+
+// The words of a fault that no place shows.
+fn alone(word: &'static [u8]) -> FaultWords
+    ensures { words_in result ≡ fault_words word.now }
+{
+    FaultWords { word, number: None }
+}
+
+// The words of a fault that this place shows.
+fn placed(word: &'static [u8], at: u32) -> FaultWords
+    ensures { words_in result ≡ fault_words word.now ++ decimal at }
+{
+    FaultWords {
+        word,
+        number: Some(at),
+    }
+}
+
+impl FaultWords {
+    /// Puts them.
+    pub fn put<T: Target>(self, target: &mut T)
+        ensures { Puts (T.standing target.old) (T.standing target.new) (words_in self) }
+    {
+        match self.number {
+            None => put_fault(target, self.word),
+            Some(number) => {
+                let mut digits = Buffer::new();
+                put_pieces(
+                    target,
+                    &[b"fault ", self.word, digits.format(number).as_bytes()],
+                );
+            }
+        }
+    }
+}
+
+/// Puts the words of a fault that no place shows.
+pub(crate) fn put_fault<T: Target>(target: &mut T, word: &[u8])
+    ensures { Puts (T.standing target.old) (T.standing target.new) (fault_words word.now) }
+{
+    put_pieces(target, &[b"fault ", word]);
 }

@@ -1,23 +1,22 @@
 // The command that compares the requirements of two formula files.
-ghost use Rattle.std.specs.Prelude.{◌≡◌, IfOk, IfErr, IsTrue};
+ghost use Rattle.std.specs.Prelude.{◌≡◌, ℕ, List, IfOk, IfErr, IsTrue};
 ghost use Rattle.std.specs.Bool.{OnTrue};
 ghost use Rattle.dcv_syntax.specs.Plain.{PlainFile};
 ghost use Rattle.dcv_command.specs.Request.{Implies};
 ghost use Rattle.dcv_implies.specs.Comparison.{letters_of};
-ghost use Rattle.dcv_print.specs.Printed.{texts_of};
-ghost use Rattle.dcv_cli.specs.Comparison.{compared, have_same_texts, IsCompared};
-ghost use Rattle.dcv_cli.specs.Expanded.{IsExpanded, IsOfFile};
+ghost use Rattle.dcv_cli.specs.Comparison.{compared, IsCompared};
 ghost use Rattle.dcv_cli.specs.Outcome.{IsExplained};
 ghost use Rattle.dcv_cli.specs.Outside.{outside};
 ghost use Rattle.dcv_cli.specs.Performed.{PerformsRequest};
+ghost use Rattle.dcv_cli.specs.ReadFile.{IsRead, WasRead};
 ghost use Rattle.dcv_cli.specs.Refusal.{status_of, is_of_text};
 ghost use Rattle.dcv_cli.specs.Status.{has_cause};
 ghost use Rattle.dcv_cli.specs.declared.refused.Which.TheVariants.{Only};
 
 use crate::budget_line::Excess;
 use crate::command::{FormulaCommand, over_formula};
-use crate::expanded::{Expanded, built, expanded_file};
 use crate::faults::FormulaFault;
+use crate::formula_file::FormulaFile;
 use crate::refusal::Refusal;
 use crate::refused::{Ended, Refused, Which};
 use crate::reply::{Reply, reply_with};
@@ -27,7 +26,6 @@ use dcv_implies::laws::{answers_are_of_sets, none_is_inclusion};
 use dcv_implies::least_outside;
 use dcv_io::{Files, Sink, Target};
 use dcv_print::put_word;
-use dcv_syntax::Name;
 use dcv_word::Word;
 use std::alloc::Global;
 
@@ -42,7 +40,7 @@ pub(crate) struct Compared {
 #[derive(Clone, Copy)]
 pub(crate) struct Comparer<'a> {
     // the first of the two
-    one: &'a Expanded,
+    one: &'a FormulaFile,
     // how large a step may be
     limits: Limits,
 }
@@ -57,10 +55,9 @@ pub(crate) fn compare_files<F: Files, O: Sink>(
     out: &mut O,
 ) -> Ended
     ensures { PerformsRequest (Implies first.entry.now second.entry.now limits) result
-        (outside (F.told files.old) (F.asked files.old) (F.open_faults files.old) (F.read_faults files.old) (O.written out.old) (O.faults out.old))
-        (outside (F.told files.new) (F.asked files.new) (F.open_faults files.new) (F.read_faults files.new) (O.written out.new) (O.faults out.new)) }
+        (outside F.Files O.Sink files.old out.old) (outside F.Files O.Sink files.new out.new) }
 {
-    match expanded_file(alloc, files, first) {
+    match FormulaFile::take(alloc, files, first) {
         Ok(one) => {
             let comparer = Comparer { one: &one, limits };
             over_formula(alloc, &comparer, second, Which::Second, files, out)
@@ -70,12 +67,13 @@ pub(crate) fn compare_files<F: Files, O: Sink>(
 }
 
 impl FormulaCommand for Comparer<'_> {
-    ghost fits = { λ comparer. IsOfFile comparer.one.now };
+    ghost fits = { λ comparer. WasRead comparer.one.now };
 
-    ghost right = { λ comparer file outcome. (first : PlainFile) → IsExpanded first comparer.one.now → IsCompared comparer.limits first file outcome };
+    ghost right = { λ comparer file outcome. (text : List ℕ) (first : PlainFile) → IsRead text first comparer.one.now
+        → IsCompared comparer.limits first file outcome };
 
-    fn answer<O: Sink>(&self, alloc: Global, formula: Expanded, out: &mut O) -> Ended {
-        let compared = compare(alloc, self.one, &formula, self.limits)?;
+    fn answer<O: Sink>(&self, alloc: Global, formula: &FormulaFile, out: &mut O) -> Ended {
+        let compared = compare(alloc, self.one, formula, self.limits)?;
         reply_with(&compared, Status::of_least(&compared.least), out)
     }
 }
@@ -83,30 +81,30 @@ impl FormulaCommand for Comparer<'_> {
 // Compares the requirements of two files.
 fn compare(
     alloc: Global,
-    one: &Expanded,
-    other: &Expanded,
+    one: &FormulaFile,
+    other: &FormulaFile,
     limits: Limits,
 ) -> Result<Compared, Refused>
-    requires one { IsOfFile one.now }
-    requires other { IsOfFile other.now }
-    ensures compared { (first second : PlainFile) → IsExpanded first one.now → IsExpanded second other.now
+    requires one { WasRead one.now }
+    requires other { WasRead other.now }
+    ensures compared { (text other_text : List ℕ) (first second : PlainFile) → IsRead text first one.now → IsRead other_text second other.now
         → IfOk result (λ found. IsCompared limits first second (compared (letters_of found.least))) }
-    ensures refused { (first second : PlainFile) → IsExpanded first one.now → IsExpanded second other.now
+    ensures refused { (text other_text : List ℕ) (first second : PlainFile) → IsRead text first one.now → IsRead other_text second other.now
         → IfErr result (λ refused. IsExplained (IsCompared limits first second) refused.which refused.refusal) }
     ensures own { IfErr result (λ refused. IsTrue (is_of_text refused.refusal)) }
     ensures of_none { IfErr result (λ refused. OnTrue (has_cause (status_of refused.refusal)) (refused.which ≡ Only)) }
 {
     answers_are_of_sets();
     none_is_inclusion();
-    if !have_same_names(&one.names, &other.names) {
+    if !one.has_names_of(other) {
         return Err(Refusal::Formula(FormulaFault::Declarations).of(Which::Only));
     }
-    let first = match built(alloc, one, limits) {
-        Ok(auto) => auto,
+    let first = match one.build(alloc, limits) {
+        Ok(built) => built.auto,
         Err(refusal) => return Err(refusal.in_file(Which::First)),
     };
-    let second = match built(alloc, other, limits) {
-        Ok(auto) => auto,
+    let second = match other.build(alloc, limits) {
+        Ok(built) => built.auto,
         Err(refusal) => return Err(refusal.in_file(Which::Second)),
     };
     // for the prover: what is true of every canonical automaton.
@@ -115,22 +113,6 @@ fn compare(
         Ok(least) => Ok(Compared { least }),
         Err(fault) => Err(Refusal::from(fault).of(Which::Only)),
     }
-}
-
-// Whether both have the same names in the same order.
-fn have_same_names(names: &[Name], others: &[Name]) -> bool
-    ensures { result ≡ have_same_texts (texts_of names.now) (texts_of others.now) }
-{
-    let Some((name, names)) = names.split_first() else {
-        return others.is_empty();
-    };
-    let Some((other, others)) = others.split_first() else {
-        return false;
-    };
-    if name.text.as_bytes() != other.text.as_bytes() {
-        return false;
-    }
-    have_same_names(names, others)
 }
 
 impl Reply for Compared {

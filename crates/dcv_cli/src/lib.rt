@@ -17,17 +17,14 @@
 //! `sweep` counts what holds of formulas that are drawn.
 #![tactic(auto)]
 
-mod automaton;
 mod budget_line;
 mod certify;
 mod command;
 mod convert;
-mod deciding;
-mod expanded;
 mod faults;
+mod formula_file;
 mod implies;
 pub mod laws;
-mod line;
 mod process;
 mod refusal;
 mod refused;

@@ -9,13 +9,12 @@ ghost use Rattle.dcv_cli.specs.Refusal.{message_of, only};
 ghost use Rattle.dcv_cli.specs.Status.{code_of};
 ghost use Rattle.dcv_cli.specs.declared.refusal.Refusal.TheVariants.{Memory};
 
-use crate::line::write_pieces;
 use crate::refusal::Refusal;
 use crate::refused::Which;
 use crate::running::{refuse, run};
 use crate::status::Status;
 use crate::words::Words;
-use dcv_io::{Files, Sink};
+use dcv_io::{Files, Sink, write_all};
 use std::alloc::Global;
 use std::io::ErrorKind;
 use std::process::ExitCode;
@@ -30,8 +29,7 @@ pub fn program<F: Files, O: Sink, E: Sink>(
     err: &mut E,
 ) -> ExitCode
     ensures ran { IfOk arguments.entry (λ arguments. (status : Status) × (exit_status result ≡ code_of status) × Promise (map string_bytes (drop 1 arguments.now)) status
-        (seen (F.told files.old) (F.asked files.old) (F.open_faults files.old) (F.read_faults files.old) (O.written out.old) (O.faults out.old) (E.written err.old) (E.faults err.old))
-        (seen (F.told files.new) (F.asked files.new) (F.open_faults files.new) (F.read_faults files.new) (O.written out.new) (O.faults out.new) (E.written err.new) (E.faults err.new))) }
+        (seen F.Files O.Sink E.Sink files.old out.old err.old) (seen F.Files O.Sink E.Sink files.new out.new err.new)) }
 
     // Without arguments the messages have a line, and all else stays as it was.
     ensures memory { IfErr arguments.entry (λ kind. kind ≡ ErrorKind.OutOfMemory → exit_status result ≡ 7) }
@@ -40,9 +38,7 @@ pub fn program<F: Files, O: Sink, E: Sink>(
     ensures usage { IfErr arguments.entry (λ kind. kind ≢ ErrorKind.OutOfMemory → exit_status result ≡ 2) }
     ensures usage_message { IfErr arguments.entry (λ kind. kind ≢ ErrorKind.OutOfMemory →
         Tells not_utf8 (E.written err.old) (E.written err.new) (E.faults err.old) (E.faults err.new)) }
-    ensures untouched { OnErr arguments.entry (
-        outside (F.told files.new) (F.asked files.new) (F.open_faults files.new) (F.read_faults files.new) (O.written out.new) (O.faults out.new)
-        ≡ outside (F.told files.old) (F.asked files.old) (F.open_faults files.old) (F.read_faults files.old) (O.written out.old) (O.faults out.old)) }
+    ensures untouched { OnErr arguments.entry (outside F.Files O.Sink files.new out.new ≡ outside F.Files O.Sink files.old out.old) }
 {
     let status = match arguments {
         Ok(arguments) => run_arguments(alloc, arguments, files, out, err),
@@ -60,8 +56,7 @@ fn run_arguments<F: Files, O: Sink, E: Sink>(
     err: &mut E,
 ) -> Status
     ensures { Promise (map string_bytes (drop 1 arguments.now)) result
-        (seen (F.told files.old) (F.asked files.old) (F.open_faults files.old) (F.read_faults files.old) (O.written out.old) (O.faults out.old) (E.written err.old) (E.faults err.old))
-        (seen (F.told files.new) (F.asked files.new) (F.open_faults files.new) (F.read_faults files.new) (O.written out.new) (O.faults out.new) (E.written err.new) (E.faults err.new)) }
+        (seen F.Files O.Sink E.Sink files.old out.old err.old) (seen F.Files O.Sink E.Sink files.new out.new err.new) }
 {
     match Words::of_arguments(alloc, arguments) {
         Ok(words) => run(alloc, &words, files, out, err),
@@ -88,5 +83,5 @@ fn refuse_all<E: Sink>(err: &mut E, kind: ErrorKind) -> Status
 fn say_not_utf8<E: Sink>(err: &mut E)
     ensures { Tells not_utf8 (E.written err.old) (E.written err.new) (E.faults err.old) (E.faults err.new) }
 {
-    let _ = write_pieces(err, &[b"the arguments are not UTF-8 text\n"]);
+    let _ = write_all(err, b"the arguments are not UTF-8 text\n");
 }

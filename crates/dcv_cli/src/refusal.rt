@@ -1,27 +1,24 @@
 // Why a run gives no report.
-ghost use Rattle.std.specs.Prelude.{◌≡◌, is_err, OnOk, OnErr};
-ghost use Rattle.dcv_io.specs.Faults.{RisesIf};
-ghost use Rattle.dcv_io.specs.Written.{Appends, AppendsPrefix};
-ghost use Rattle.dcv_cli.specs.declared.refusal.Refusal.TheVariants.{Formula, Memory, Product};
-ghost use Rattle.dcv_cli.specs.declared.faults.FormulaFault.TheVariants.{Text};
+ghost use Rattle.std.specs.Prelude.{◌≡◌};
+ghost use Rattle.dcv_io.specs.Putting.{Puts};
+ghost use Rattle.dcv_cli.specs.declared.refusal.Refusal.TheVariants.{Memory, Product};
 ghost use Rattle.dcv_cli.specs.Refusal.{marked, status_of, words_of};
 ghost use Rattle.dcv_cli.specs.Refusal.{refusal_of_automaton, refusal_of_observer, refusal_of_outside, refusal_of_reading, refusal_of_scope};
 
-use crate::budget_line::{Excess, Over, tell_product};
-use crate::faults::{AutomatonFault, FormulaFault, ObserverFault, TextFault, TraceFault};
-use crate::line::tell_fault;
+use crate::budget_line::{Excess, Over, put_product};
+use crate::faults::{AutomatonFault, FormulaFault, ObserverFault, TraceFault, put_fault};
 use crate::refused::{Refused, Which};
 use crate::status::Status;
 use dcv_automaton_read::AutoFault;
 use dcv_implies::OutsideFault;
-use dcv_io::{Failed, Sink};
+use dcv_io::Target;
 use dcv_observer::ObsFault;
 use dcv_reader::ReadFault;
 use dcv_scope::ScopeFault;
-use std::alloc::{AllocError, AllocFailed};
+use std::alloc::AllocError;
 
 /// Why a run gives no report.
-#[derive(Clone, Copy, Debug, PartialEq, Eq)]
+#[derive(Clone, Copy)]
 pub enum Refusal {
     /// The file could not be opened.
     Open,
@@ -84,32 +81,23 @@ impl Refusal {
         }
     }
 
-    /// Writes the words that say so. It takes no memory, since memory may have run out.
-    pub fn tell<S: Sink>(self, sink: &mut S) -> Result<(), Failed>
-        ensures ok { OnOk result (Appends (S.written sink.old) (S.written sink.new) (words_of self)) }
-        ensures failed { OnErr result (AppendsPrefix (S.written sink.old) (S.written sink.new) (words_of self)) }
-        ensures faults { RisesIf (is_err result) (S.faults sink.old) (S.faults sink.new) }
+    /// Puts the words that say so.
+    pub fn put<T: Target>(self, target: &mut T)
+        ensures { Puts (T.standing target.old) (T.standing target.new) (words_of self) }
     {
         match self {
-            Refusal::Open => tell_fault(sink, b"open"),
-            Refusal::Read => tell_fault(sink, b"read"),
-            Refusal::Formula(fault) => fault.tell(sink),
-            Refusal::Automaton(fault) => fault.tell(sink),
-            Refusal::Observer(fault) => fault.tell(sink),
-            Refusal::Trace(fault) => fault.tell(sink),
-            Refusal::Budget(over) => over.tell(sink),
-            Refusal::Product { excess, limit } => tell_product(sink, excess, limit),
-            Refusal::Write => tell_fault(sink, b"write"),
-            Refusal::Memory => tell_fault(sink, b"memory"),
+            Refusal::Open => put_fault(target, b"open"),
+            Refusal::Read => put_fault(target, b"read"),
+            Refusal::Formula(fault) => fault.words().put(target),
+            Refusal::Automaton(fault) => fault.words().put(target),
+            Refusal::Observer(fault) => fault.words().put(target),
+            Refusal::Trace(fault) => fault.words().put(target),
+            Refusal::Budget(over) => over.put(target),
+            Refusal::Product { excess, limit } => put_product(target, excess, limit),
+            Refusal::Write => put_fault(target, b"write"),
+            Refusal::Memory => put_fault(target, b"memory"),
         }
     }
-}
-
-// The text of a formula file is refused for this fault.
-fn of_text(fault: TextFault, at: u32) -> Refusal
-    ensures { result ≡ Formula (Text fault at) }
-{
-    Refusal::Formula(FormulaFault::Text { fault, at })
 }
 
 // The product of two automata has more of this than the limit.
@@ -124,12 +112,8 @@ impl From<ReadFault> for Refusal {
 
     fn from(fault: ReadFault) -> Self {
         match fault {
-            ReadFault::Byte { at } => of_text(TextFault::Byte, at),
-            ReadFault::Syntax { at } => of_text(TextFault::Syntax, at),
-            ReadFault::Number { at } => of_text(TextFault::Number, at),
-            ReadFault::Name { at } => of_text(TextFault::Name, at),
-            ReadFault::Nest { at } => of_text(TextFault::Nest, at),
             ReadFault::Memory => Refusal::Memory,
+            _ => Refusal::Formula(FormulaFault::Reading(fault)),
         }
     }
 }
@@ -139,17 +123,8 @@ impl From<ScopeFault> for Refusal {
 
     fn from(fault: ScopeFault) -> Self {
         match fault {
-            ScopeFault::TooMany { at } => of_text(TextFault::Many, at),
-            ScopeFault::Duplicate { at } => of_text(TextFault::Duplicate, at),
-            ScopeFault::Taken { at } => of_text(TextFault::Taken, at),
-            ScopeFault::Unknown { at } => of_text(TextFault::Unknown, at),
-            ScopeFault::Kind { at } => of_text(TextFault::Kind, at),
-            ScopeFault::Arity { at } => of_text(TextFault::Arity, at),
-            ScopeFault::Size { at } => of_text(TextFault::Size, at),
-            ScopeFault::Depth { at } => of_text(TextFault::Depth, at),
-            ScopeFault::Slots { at } => of_text(TextFault::Slots, at),
-            ScopeFault::BoundShift { at } => of_text(TextFault::Shift, at),
             ScopeFault::Memory => Refusal::Memory,
+            _ => Refusal::Formula(FormulaFault::Scope(fault)),
         }
     }
 }
@@ -194,14 +169,6 @@ impl From<AllocError> for Refusal {
     ghost from_gives = { λ _ refusal. refusal ≡ Memory };
 
     fn from(_: AllocError) -> Self {
-        Refusal::Memory
-    }
-}
-
-impl<T: Drop> From<AllocFailed<T>> for Refusal {
-    ghost from_gives = { λ _ refusal. refusal ≡ Memory };
-
-    fn from(_: AllocFailed<T>) -> Self {
         Refusal::Memory
     }
 }

@@ -1,19 +1,18 @@
 // A refusal, as it is told: of the one file that a request reads, or of which one.
-ghost use Rattle.std.specs.Prelude.{◌≡◌, is_err, OnOk, OnErr};
-ghost use Rattle.dcv_io.specs.Faults.{RisesIf};
-ghost use Rattle.dcv_io.specs.Written.{Appends, AppendsPrefix};
-ghost use Rattle.dcv_cli.specs.Refusal.{end_of, message_of, only, refusal_of_replay};
-ghost use Rattle.dcv_cli.specs.declared.refusal.Refusal.TheVariants.{Memory, Write};
+ghost use Rattle.std.specs.Prelude.{◌≡◌};
+ghost use Rattle.dcv_cli.specs.Refusal.{end_of, only, refusal_of_replay};
+ghost use Rattle.dcv_cli.specs.declared.refusal.Refusal.TheVariants.{Memory};
 
 use crate::faults::TraceFault;
 use crate::refusal::Refusal;
+use crate::reply::Reply;
 use crate::status::Status;
-use dcv_io::{Failed, Sink, write_all};
+use dcv_io::Target;
 use dcv_replay::ReplayFault;
 use std::alloc::AllocError;
 
 /// Which of the formula files that a request reads.
-#[derive(Clone, Copy, Debug, PartialEq, Eq)]
+#[derive(Clone, Copy)]
 pub enum Which {
     /// It reads no more than one, or the refusal is of none.
     Only,
@@ -37,7 +36,7 @@ impl Which {
 }
 
 /// Why a run gives no report, and of which file.
-#[derive(Clone, Copy, Debug, PartialEq, Eq)]
+#[derive(Clone, Copy)]
 pub struct Refused {
     /// What is wrong.
     pub refusal: Refusal,
@@ -48,15 +47,14 @@ pub struct Refused {
 /// How a command ends.
 pub(crate) type Ended = Result<Status, Refused>;
 
-impl Refused {
-    /// Writes the line that says so. It takes no memory, since memory may have run out.
-    pub fn tell<S: Sink>(self, sink: &mut S) -> Result<(), Failed>
-        ensures ok { OnOk result (Appends (S.written sink.old) (S.written sink.new) (message_of self)) }
-        ensures failed { OnErr result (AppendsPrefix (S.written sink.old) (S.written sink.new) (message_of self)) }
-        ensures faults { RisesIf (is_err result) (S.faults sink.old) (S.faults sink.new) }
-    {
-        self.refusal.tell(sink)?;
-        write_all(sink, self.which.end())
+impl Reply for Refused {
+    ghost use Rattle.dcv_cli.specs.Refusal.{message_of};
+
+    ghost text = { message_of };
+
+    fn put<T: Target>(&self, target: &mut T) {
+        self.refusal.put(target);
+        target.put(self.which.end());
     }
 }
 
@@ -89,14 +87,5 @@ impl From<AllocError> for Refused {
 
     fn from(_: AllocError) -> Self {
         Refusal::Memory.of(Which::Only)
-    }
-}
-
-impl From<Failed> for Refused {
-    ghost from_gives = { λ _ refused. refused ≡ only Write };
-
-    // The one call of the outside that is handed on so is a write of the report.
-    fn from(_: Failed) -> Self {
-        Refusal::Write.of(Which::Only)
     }
 }

@@ -4,11 +4,12 @@ ghost use Rattle.std.specs.Bool.{OnTrue};
 ghost use Rattle.dcv_command.specs.Request.{Replay as ReplayRequest};
 ghost use Rattle.dcv_command.specs.declared.words.Subset.TheVariants.{Lustre, C};
 ghost use Rattle.dcv_replay.specs.Observer.{Observer, KeepsTheRules, Follows};
+ghost use Rattle.dcv_cli.specs.Held.{IsHeldSuch};
 ghost use Rattle.dcv_cli.specs.ObserverFile.{IsRefusedObserver};
 ghost use Rattle.dcv_cli.specs.Outside.{of_files, outside};
 ghost use Rattle.dcv_cli.specs.Performed.{Performs, PerformsRequest, Takes};
 ghost use Rattle.dcv_cli.specs.Refusal.{most_observer_bytes, is_of_text, status_of};
-ghost use Rattle.dcv_cli.specs.Replaying.{IsReplayOf, IsReplayIn, IsRefusedIn, FulfilsTrace, LeavesTrace};
+ghost use Rattle.dcv_cli.specs.Replaying.{IsReplayOf, FulfilsTrace, LeavesTrace};
 ghost use Rattle.dcv_cli.specs.Status.{is_determined};
 
 use crate::faults::{MOST_OBSERVER_BYTES, ObserverFault};
@@ -34,8 +35,7 @@ pub(crate) fn replay_file<F: Files, O: Sink>(
     out: &mut O,
 ) -> Ended
     ensures { PerformsRequest (ReplayRequest subset observer.entry.now trace.entry.now) result
-        (outside (F.told files.old) (F.asked files.old) (F.open_faults files.old) (F.read_faults files.old) (O.written out.old) (O.faults out.old))
-        (outside (F.told files.new) (F.asked files.new) (F.open_faults files.new) (F.read_faults files.new) (O.written out.new) (O.faults out.new)) }
+        (outside F.Files O.Sink files.old out.old) (outside F.Files O.Sink files.new out.new) }
 {
     let mut replay = observer_file(alloc, subset, files, observer)?;
     answer_trace(&mut replay, trace, files, out)
@@ -48,11 +48,10 @@ fn observer_file<F: Files>(
     files: &mut F,
     name: &str,
 ) -> Result<Replay, Refusal>
-    ensures observer { IfOk result (IsReplayIn subset (F.told files.old) name.now) }
-    ensures refused { IfErr result (λ refusal. OnTrue (is_determined (status_of refusal)) (IsRefusedIn subset (F.told files.old) name.now refusal)) }
-    ensures taken { Takes name.now result
-        (of_files (F.told files.old) (F.asked files.old) (F.open_faults files.old) (F.read_faults files.old))
-        (of_files (F.told files.new) (F.asked files.new) (F.open_faults files.new) (F.read_faults files.new)) }
+    ensures observer { IfOk result (λ replay. IsHeldSuch (F.told files.old) name.now (λ text. IsReplayOf subset text replay)) }
+    ensures refused { IfErr result (λ refusal. OnTrue (is_determined (status_of refusal))
+        (IsHeldSuch (F.told files.old) name.now (λ text. IsRefusedObserver subset text refusal))) }
+    ensures taken { Takes name.now result (of_files F.Files files.old) (of_files F.Files files.new) }
 {
     let too_long = Refusal::Observer(ObserverFault::Length);
     let text = take(alloc, files, name, MOST_OBSERVER_BYTES, too_long)?;
@@ -105,8 +104,7 @@ fn answer_trace<F: Files, O: Sink>(
 ) -> Ended
     ensures { (observer : Observer) → KeepsTheRules observer → Follows observer [] replay.old
         → Performs (FulfilsTrace observer trace.entry.now (F.told files.old)) (LeavesTrace observer trace.entry.now) (trace.entry.now ∷ []) result
-        (outside (F.told files.old) (F.asked files.old) (F.open_faults files.old) (F.read_faults files.old) (O.written out.old) (O.faults out.old))
-        (outside (F.told files.new) (F.asked files.new) (F.open_faults files.new) (F.read_faults files.new) (O.written out.new) (O.faults out.new)) }
+        (outside F.Files O.Sink files.old out.old) (outside F.Files O.Sink files.new out.new) }
 {
     traces_have_one_verdict();
     letters_have_one_text_of_answers();

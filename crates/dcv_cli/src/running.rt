@@ -15,6 +15,7 @@ use crate::implies::compare_files;
 use crate::refusal::Refusal;
 use crate::refused::{Ended, Refused, Which};
 use crate::replay::replay_file;
+use crate::reply::send;
 use crate::report::Reporter;
 use crate::status::Status;
 use crate::stuck::StuckFinder;
@@ -48,8 +49,7 @@ pub fn run<F: Files, O: Sink, E: Sink>(
     err: &mut E,
 ) -> Status
     ensures { Promise words.now result
-        (seen (F.told files.old) (F.asked files.old) (F.open_faults files.old) (F.read_faults files.old) (O.written out.old) (O.faults out.old) (E.written err.old) (E.faults err.old))
-        (seen (F.told files.new) (F.asked files.new) (F.open_faults files.new) (F.read_faults files.new) (O.written out.new) (O.faults out.new) (E.written err.new) (E.faults err.new)) }
+        (seen F.Files O.Sink E.Sink files.old out.old err.old) (seen F.Files O.Sink E.Sink files.new out.new err.new) }
 {
     let request = match read_words(alloc, words.as_slice()) {
         Ok(request) => request,
@@ -71,7 +71,7 @@ pub(crate) fn refuse<E: Sink>(err: &mut E, refused: Refused) -> Status
     ensures status { result ≡ status_of refused.refusal }
     ensures message { Tells (message_of refused) (E.written err.old) (E.written err.new) (E.faults err.old) (E.faults err.new) }
 {
-    let _ = refused.tell(err);
+    let _ = send(&refused, err);
     refused.refusal.status()
 }
 
@@ -84,8 +84,7 @@ pub(crate) fn perform<F: Files, O: Sink>(
 ) -> Ended
     requires { IsInRange (asked_by request) }
     ensures { PerformsRequest (asked_by request.entry) result
-        (outside (F.told files.old) (F.asked files.old) (F.open_faults files.old) (F.read_faults files.old) (O.written out.old) (O.faults out.old))
-        (outside (F.told files.new) (F.asked files.new) (F.open_faults files.new) (F.read_faults files.new) (O.written out.new) (O.faults out.new)) }
+        (outside F.Files O.Sink files.old out.old) (outside F.Files O.Sink files.new out.new) }
 {
     match request {
         Request::Report { kind, file, limits } => {

@@ -1,15 +1,15 @@
 // The command that asks whether what has kept to the requirement of a formula file so far can always go on.
-ghost use Rattle.std.specs.Prelude.{IfOk, IfErr};
+ghost use Rattle.std.specs.Prelude.{ℕ, List, IfOk, IfErr};
 ghost use Rattle.dcv_syntax.specs.Plain.{PlainFile};
 ghost use Rattle.dcv_build.specs.Given.{IsCore};
 ghost use Rattle.dcv_print.specs.Verdict.{letters_of};
 ghost use Rattle.dcv_cli.specs.Budget.{steps_of_file, IsBudgeted, NamesFirstOver};
-ghost use Rattle.dcv_cli.specs.Expanded.{IsExpanded};
+ghost use Rattle.dcv_cli.specs.ReadFile.{IsRead};
 ghost use Rattle.dcv_cli.specs.Stuck.{stuck_outcome, IsStuckReport};
 ghost use Rattle.dcv_cli.specs.declared.refused.Which.TheVariants.{Only};
 
 use crate::command::FormulaCommand;
-use crate::expanded::{Expanded, built};
+use crate::formula_file::FormulaFile;
 use crate::refusal::Refusal;
 use crate::refused::Ended;
 use crate::reply::{Reply, reply_with};
@@ -41,26 +41,24 @@ impl FormulaCommand for StuckFinder {
 
     ghost right = { λ finder. IsBudgeted finder.limits Only IsStuckReport };
 
-    fn answer<O: Sink>(&self, alloc: Global, formula: Expanded, out: &mut O) -> Ended {
-        let found = stuck_in(alloc, &formula, self.limits);
-        drop(formula);
-        let found = found?;
+    fn answer<O: Sink>(&self, alloc: Global, formula: &FormulaFile, out: &mut O) -> Ended {
+        let found = stuck_in(alloc, formula, self.limits)?;
         reply_with(&found, Status::of_least(&found.least), out)
     }
 }
 
 // The least stuck word of the behaviours that model the file.
-fn stuck_in(alloc: Global, expanded: &Expanded, limits: Limits) -> Result<LeastStuck, Refusal>
-    requires { IsCore expanded.now.core }
-    ensures found { (file : PlainFile) → IsExpanded file expanded.now
+fn stuck_in(alloc: Global, formula: &FormulaFile, limits: Limits) -> Result<LeastStuck, Refusal>
+    requires { IsCore formula.now.core }
+    ensures found { (text : List ℕ) (file : PlainFile) → IsRead text file formula.now
         → IfOk result (λ found. IsBudgeted limits Only IsStuckReport file (stuck_outcome (letters_of found.least))) }
-    ensures over { (file : PlainFile) → IsExpanded file expanded.now → IfErr result (NamesFirstOver (steps_of_file file) limits) }
+    ensures over { (text : List ℕ) (file : PlainFile) → IsRead text file formula.now → IfErr result (NamesFirstOver (steps_of_file file) limits) }
 {
     least_stuck_is_of_sets();
     never_stuck_goes_on();
-    let auto = built(alloc, expanded, limits)?;
-    let least = least_stuck(alloc, auto.raw());
-    drop(auto);
+    let built = formula.build(alloc, limits)?;
+    let least = least_stuck(alloc, built.auto.raw());
+    drop(built);
     let least = least?;
     Ok(LeastStuck { least })
 }

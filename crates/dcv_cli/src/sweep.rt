@@ -1,8 +1,7 @@
 // The command that counts what holds of formulas that are drawn.
-ghost use Rattle.std.specs.Prelude.{◌≡◌, ℕ, List, Option};
-ghost use Rattle.dcv_io.specs.Disk.{Disk};
+ghost use Rattle.std.specs.Prelude.{◌≡◌};
 ghost use Rattle.dcv_command.specs.Request.{Sweep, CanBeDrawn};
-ghost use Rattle.dcv_cli.specs.Outside.{outside};
+ghost use Rattle.dcv_cli.specs.Outside.{Outside, stream, with_output};
 ghost use Rattle.dcv_cli.specs.Performed.{PerformsRequest};
 
 use crate::refused::Ended;
@@ -23,10 +22,8 @@ const LIMITS: Limits = Limits {
 /// Writes the counts over so many formulas that are drawn from the seed. The files stay as they are.
 pub(crate) fn sweep_formulas<O: Sink>(alloc: Global, seed: u32, count: u32, out: &mut O) -> Ended
     requires { CanBeDrawn seed count }
-    ensures { (told : Option Disk) (asked : Option (List (List ℕ))) (open_faults read_faults : ℕ)
-        → PerformsRequest (Sweep seed count) result
-        (outside told asked open_faults read_faults (O.written out.old) (O.faults out.old))
-        (outside told asked open_faults read_faults (O.written out.new) (O.faults out.new)) }
+    ensures { (files : Outside) → PerformsRequest (Sweep seed count) result
+        (with_output files (stream O.Sink out.old)) (with_output files (stream O.Sink out.new)) }
 {
     let summary = sweep(alloc, seed, count, LIMITS)?;
     reply_with(&summary, Status::Done, out)

@@ -8,18 +8,18 @@ ghost use Rattle.dcv_dfa.specs.Raw.{automaton_of};
 ghost use Rattle.dcv_build.specs.Budget.{IsAutomatonOf};
 ghost use Rattle.dcv_automaton_file.specs.File.{texts_of};
 ghost use Rattle.dcv_synth.specs.Control.{IsControlOf};
-ghost use Rattle.dcv_cli.specs.Judged.{CanBePrinted};
+ghost use Rattle.dcv_cli.specs.ReadFile.{CanBePrinted};
 ghost use Rattle.dcv_cli.specs.Synthesis.{can_be_divided as can_be_divided_so, move_line, strategy_text, IsSynthesis};
 ghost use Rattle.dcv_cli.specs.Synthesised.{status_of_synthesis, synthesised};
 
 use crate::command::FormulaCommand;
-use crate::expanded::Expanded;
 use crate::faults::FormulaFault;
+use crate::formula_file::FormulaFile;
 use crate::refusal::Refusal;
 use crate::refused::{Ended, Which};
 use crate::reply::{Reply, reply_with};
-use crate::report::{Judged, judge};
 use crate::status::Status;
+use dcv_build::Built;
 use dcv_c::laws::texts_spell_units;
 use dcv_c::{CUnit, put as put_unit};
 use dcv_explore::Limits;
@@ -62,12 +62,12 @@ impl FormulaCommand for Synthesiser {
 
     ghost right = { λ asked. IsSynthesised asked.inputs asked.limits };
 
-    fn answer<O: Sink>(&self, alloc: Global, formula: Expanded, out: &mut O) -> Ended {
-        if !can_be_divided(self.inputs, &formula.names) {
+    fn answer<O: Sink>(&self, alloc: Global, formula: &FormulaFile, out: &mut O) -> Ended {
+        if !can_be_divided(self.inputs, formula.names()) {
             return Err(Refusal::Formula(FormulaFault::Outputs).of(Which::Only));
         }
-        let judged = judge(alloc, formula, self.limits)?;
-        let found = synthesise(alloc, &judged, self.inputs as u8)?;
+        let built = formula.build(alloc, self.limits)?;
+        let found = synthesise(alloc, formula.names(), &built, self.inputs as u8)?;
         reply_with(&found, found.status(), out)
     }
 }
@@ -81,19 +81,24 @@ fn can_be_divided(inputs: u32, names: &[Name]) -> bool
 }
 
 // The controller, or the strategy, of the automaton.
-fn synthesise(alloc: Global, judged: &Judged, inputs: u8) -> Result<Synthesis, AllocError>
-    requires printable { CanBePrinted judged.now }
-    requires divided { IsTrue (can_be_divided_so inputs (length judged.now.names.items)) }
-    ensures { (k : ℕ) (L : Language) → IsAutomatonOf k L judged.now.auto
-        → IfOk result (λ found. IsSynthesis inputs (k - inputs) L (take inputs (texts_of judged.now.names.items)) (synthesised found)) }
+fn synthesise(
+    alloc: Global,
+    names: &[Name],
+    built: &Built,
+    inputs: u8,
+) -> Result<Synthesis, AllocError>
+    requires printable { CanBePrinted names.now built.now }
+    requires divided { IsTrue (can_be_divided_so inputs (length names.now)) }
+    ensures { (k : ℕ) (L : Language) → IsAutomatonOf k L built.now.auto
+        → IfOk result (λ found. IsSynthesis inputs (k - inputs) L (take inputs (texts_of names.now)) (synthesised found)) }
 {
     answers_are_of_tables();
     strategies_beat();
     winners_of_same_behaviours();
     // for the prover: what is true of every canonical automaton.
-    let _ = judged.auto.states();
-    match synth(alloc, &judged.auto, inputs)? {
-        Outcome::Controller(control) => controller(alloc, judged, inputs, &control),
+    let _ = built.auto.states();
+    match synth(alloc, &built.auto, inputs)? {
+        Outcome::Controller(control) => controller(alloc, names, built, inputs, &control),
         Outcome::Strategy(strategy) => Ok(Synthesis::Strategy(strategy)),
     }
 }
@@ -101,26 +106,27 @@ fn synthesise(alloc: Global, judged: &Judged, inputs: u8) -> Result<Synthesis, A
 // The controller as a unit of the subset of C, by the names of the inputs.
 fn controller(
     alloc: Global,
-    judged: &Judged,
+    names: &[Name],
+    built: &Built,
     inputs: u8,
     control: &Control,
 ) -> Result<Synthesis, AllocError>
-    requires printable { CanBePrinted judged.now }
-    requires inputs { inputs ≤ judged.now.auto.arena.slots }
-    requires control { IsControlOf inputs (judged.now.auto.arena.slots - inputs) (automaton_of judged.now.auto) control.now }
+    requires printable { CanBePrinted names.now built.now }
+    requires inputs { inputs ≤ built.now.auto.arena.slots }
+    requires control { IsControlOf inputs (built.now.auto.arena.slots - inputs) (automaton_of built.now.auto) control.now }
     requires next_nodes { length control.now.next.arena.nodes ≤ most_nodes }
     requires output_nodes { length control.now.output.arena.nodes ≤ most_nodes }
-    ensures { (k : ℕ) (L : Language) → IsAutomatonOf k L judged.now.auto
-        → IfOk result (λ found. IsSynthesis inputs (k - inputs) L (take inputs (texts_of judged.now.names.items)) (synthesised found)) }
+    ensures { (k : ℕ) (L : Language) → IsAutomatonOf k L built.now.auto
+        → IfOk result (λ found. IsSynthesis inputs (k - inputs) L (take inputs (texts_of names.now)) (synthesised found)) }
 {
     answers_are_of_tables();
     controls_win();
     winners_of_same_behaviours();
     texts_spell_units();
     // for the prover: what is true of every canonical automaton, and of every controller.
-    let _ = judged.auto.states();
+    let _ = built.auto.states();
     let _ = control.states().len();
-    let unit = control.unit(alloc, &judged.names[..inputs as usize])?;
+    let unit = control.unit(alloc, &names[..inputs as usize])?;
     // for the prover: what is true of every unit.
     unit.keeps_the_rules();
     Ok(Synthesis::Controller(unit))

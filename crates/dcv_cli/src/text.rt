@@ -1,8 +1,8 @@
 // The texts that a command reads.
-ghost use Rattle.std.specs.Prelude.{◌≡◌, ◌≤◌, Some, length, IfOk, IfErr, IfSome, IsTrue};
+ghost use Rattle.std.specs.Prelude.{◌≡◌, ◌<◌, ◌≤◌, Some, length, IfOk, IfErr, IfSome, IsTrue};
 ghost use Rattle.dcv_io.specs.Disk.{held_of};
 ghost use Rattle.std.specs.Bool.{OnTrue};
-ghost use Rattle.dcv_cli.specs.Held.{IsTooLongText};
+ghost use Rattle.dcv_cli.specs.Held.{IsHeldSuch};
 ghost use Rattle.dcv_cli.specs.Outside.{of_files};
 ghost use Rattle.dcv_cli.specs.Performed.{Takes};
 ghost use Rattle.dcv_cli.specs.Status.{is_determined};
@@ -26,10 +26,8 @@ pub(crate) fn take<F: Files>(
 
     // Where it is neither the outside nor memory, the text is too long.
     ensures refused { IfErr result (λ refusal. OnTrue (is_determined (status_of refusal))
-        ((refusal ≡ too_long) × IsTooLongText (F.told files.old) name.now limit)) }
-    ensures taken { Takes name.now result
-        (of_files (F.told files.old) (F.asked files.old) (F.open_faults files.old) (F.read_faults files.old))
-        (of_files (F.told files.new) (F.asked files.new) (F.open_faults files.new) (F.read_faults files.new)) }
+        ((refusal ≡ too_long) × IsHeldSuch (F.told files.old) name.now (λ text. limit < length text))) }
+    ensures taken { Takes name.now result (of_files F.Files files.old) (of_files F.Files files.new) }
 {
     match read_all(alloc, files, name, u64::from(limit)) {
         Ok(text) => Ok(text),

@@ -11,9 +11,9 @@ pub returns-in_err-text : goal.returns-in_err-text
 returns-in_err-text g c =
     let p = err_from_is_err_and c.from_residual.result c.from_residual.ensures.1 in
     let refusal = c.in_err-text.field-0.0 in
-    rw (p.1, p.2) (performs_only _ _ [] refusal c.in_err-text.ensures.taken _ _
+    rw (p.1, p.2) (performs_only _ _ [] refusal c.in_err-text.ensures.taken _
     (explains_text _ _ (g.C.AutomatonCommand.right c.args.command.now) refusal
-    (on_true_weaker (is_determined (status_of refusal)) (λ some. (some.1.text, some.1.there, TooLong some.1.longer some.0)) c.in_err-text.ensures.refused))
+    (on_true_weaker (is_determined (status_of refusal)) (λ some. record { text = some.1.text; there = some.1.there; is = TooLong some.1.is some.0 }) c.in_err-text.ensures.refused))
     (for_any _ _ (λ held. record { asked = c.in_err-text.ensures.taken.asked; none = refl })))
 
 pub returns-in_err-file : goal.returns-in_err-file
@@ -21,16 +21,16 @@ returns-in_err-file g c =
     let p = err_from_is_err_and c.from_residual-in_err-file.result c.from_residual-in_err-file.ensures.1 in
     let refusal = c.in_err-file.field-0.0 in
     let refused = subst (λ (text : List ℕ). OnTrue (is_determined (status_of refusal)) (IsRefusedAutomaton text refusal)) c.deref-bytes.ensures.value c.in_err-file.ensures.refused in
-    rw (p.1, p.2) (performs_answered c.in_ok-text.ensures.taken _ _ (λ outcome right. right) _ _ _
+    rw (p.1, p.2) (performs_answered c.in_ok-text.ensures.taken _ (λ outcome right. right) _ _
     (answers_only _ refusal c.in_err-file.ensures.own
     (explains_text _ _ (g.C.AutomatonCommand.right c.args.command.now) refusal
-    (on_true_weaker (is_determined (status_of refusal)) (λ some. (c.in_ok-text.text.items, c.in_ok-text.ensures.ok, some)) refused)) _ _))
+    (on_true_weaker (is_determined (status_of refusal)) (λ some. record { text = c.in_ok-text.text.items; there = c.in_ok-text.ensures.ok; is = some }) refused)) _))
 
 pub returns : goal.returns
 returns g c =
     let file = c.in_ok-file.file in
     let spelled = subst (λ (text : List ℕ). IsAutomatonText text file) c.deref-bytes.ensures.value c.in_ok-file.ensures.spelled in
-    performs_answered c.in_ok-text.ensures.taken _ _
+    performs_answered c.in_ok-text.ensures.taken _
     (λ outcome right. fulfils_first _ _ c.in_ok-text.text.items (λ held text. OnAutomaton text (g.C.AutomatonCommand.right c.args.command.now)) outcome
     c.in_ok-text.ensures.ok (λ held. Read file spelled right))
-    _ _ _ c.answer.ensures
+    _ _ c.answer.ensures

@@ -8,19 +8,19 @@ use Rattle.dcv_cli.proofs.implies.compare_files.Goals as goal
 
 pub returns-in-Ok : goal.returns-in-Ok
 returns-in-Ok g c =
-    let given = c.in-Ok.ensures.expanded in
+    let given = c.in-Ok.ensures.read in
     let taken = c.in-Ok.ensures.taken in
-    let known = given.is in
-    performs_later taken _ _
-    (λ outcome right. fulfils_both _ _ c.args.first.now c.args.second.now given.text c.args.limits known.file outcome taken.held given.there known.formula _
-    (λ other outcome each. each known.file known.is) right)
+    let (file, is) = given.is in
+    performs_later taken _
+    (λ outcome right. fulfils_both _ _ c.args.first.now c.args.second.now given.text c.args.limits file outcome taken.held given.there is.spelled _
+    (λ other outcome each. each given.text file is) right)
     c.over_formula.result (c.args.second.now ∷ []) _
-    (λ bytes left. leaves_both c.args.first.now c.args.second.now given.text c.args.limits known.file _ _ _ bytes taken.asked given.there known.formula left)
+    (λ bytes left. leaves_both c.args.first.now c.args.second.now given.text c.args.limits file _ _ _ bytes taken.asked given.there is.spelled left)
     c.over_formula.ensures
 
 pub returns-in-Err : goal.returns-in-Err
 returns-in-Err g c =
     let taken = c.in-Err.ensures.taken in
-    rw c.in_file.ensures (performs_untaken _ _ (c.args.second.now ∷ []) c.in-Err.refusal taken _ _ First
+    rw c.in_file.ensures (performs_untaken _ _ (c.args.second.now ∷ []) c.in-Err.refusal taken _ First
     (explains_file _ _ First (λ held one. OnHeld (held 1) c.args.second.now (λ text. OnText text Second (IsCompared c.args.limits one))) c.in-Err.refusal c.in-Err.ensures.refused)
     (leaves_first c.args.first.now c.args.second.now c.args.limits _ _ taken.asked))

@@ -3,4 +3,4 @@ use Rattle.dcv_cli.proofs.Printed.{printed_is_certified}
 use Rattle.dcv_cli.proofs.laws.printed_is_certified.Goals as goal
 
 pub returns : goal.returns
-returns c = printed_is_certified c.names_are_short.ensures c.measures_bound_core.ensures.steps c.one_file.ensures c.one_answer.ensures c.printed_is_certified.ensures
+returns c = printed_is_certified c.one_file.ensures c.one_answer.ensures c.printed_is_certified.ensures

@@ -10,7 +10,7 @@ returns-in_err-replay g c =
     let p = err_from_is_err_and c.from_residual.result c.from_residual.ensures.1 in
     let refusal = c.in_err-replay.field-0.0 in
     let taken = c.in_err-replay.ensures.taken in
-    rw (p.1, p.2) (performs_only _ _ (c.args.trace.now ∷ []) refusal taken _ _
+    rw (p.1, p.2) (performs_only _ _ (c.args.trace.now ∷ []) refusal taken _
     (explains_replay c.args.subset _ c.args.observer.now c.args.trace.now refusal c.in_err-replay.ensures.refused)
     (leaves_before_trace c.args.subset c.args.observer.now c.args.trace.now _ _ taken.asked))
 
@@ -18,7 +18,7 @@ pub returns : goal.returns
 returns g c =
     let taken = c.in_ok-replay.ensures.taken in
     let known = c.in_ok-replay.ensures.observer in
-    performs_later taken _ _
+    performs_later taken _
     (fulfils_replay c.args.subset _ c.args.observer.now c.args.trace.now _ known.text known.is.observer taken.held known.there known.is.is)
     c.answer_trace.result (c.args.trace.now ∷ []) _
     (λ bytes left. leaves_replay c.args.subset c.args.observer.now c.args.trace.now known.text known.is.observer _ _ _ _ bytes taken.asked taken.held known.there known.is.is left)

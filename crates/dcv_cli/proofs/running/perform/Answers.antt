@@ -1,4 +1,5 @@
 -- What is right for the file is right for the request. Where formulas are drawn, the files are as they were.
+use Rattle.dcv_cli.specs.Outside.{of_files}
 use Rattle.dcv_cli.proofs.running.perform.Goals as goal
 
 pub returns-in-Report : goal.returns-in-Report
@@ -18,5 +19,4 @@ returns-in-Synth g c = rw c.in-Synth.is c.over_formula-in-Synth.ensures
 
 pub returns-in-Sweep : goal.returns-in-Sweep
 returns-in-Sweep g c =
-    rw c.in-Sweep.is (c.sweep_formulas.ensures (g.F.Files.told c.args.files.now) (g.F.Files.asked c.args.files.now) (g.F.Files.open_faults c.args.files.now)
-    (g.F.Files.read_faults c.args.files.now))
+    rw c.in-Sweep.is (c.sweep_formulas.ensures (of_files g.F.Files c.args.files.now))

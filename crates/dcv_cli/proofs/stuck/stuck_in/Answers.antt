@@ -7,9 +7,9 @@ use Rattle.dcv_cli.proofs.StuckReports.{built_reports}
 use Rattle.dcv_cli.proofs.stuck.stuck_in.Goals as goal
 
 pub returns-clause-found : goal.returns-clause-found
-returns-clause-found c file is =
-    let auto = c.in_ok-auto.auto in
+returns-clause-found c text file is =
+    let built = c.in_ok-built.built in
     let least = letters_of c.in_ok-least.least in
     built_reports c.never_stuck_goes_on.ensures c.least_stuck_is_of_sets.ensures.same
-    file c.args.limits auto least c.raw.ensures.auto (c.in_ok-auto.ensures.built file is)
+    file c.args.limits built least c.raw.ensures.auto (c.in_ok-built.ensures.built text file is)
     (subst (λ (raw : RawValue). IsLeastStuckOf raw.arena.slots (raw_accepts raw) least) c.raw.ensures.raw c.in_ok-least.ensures.least)

@@ -4,9 +4,8 @@ use Rattle.dcv_cli.proofs.ThreeEnds.{answers_reply, for_any, performs_none}
 use Rattle.dcv_cli.proofs.sweep.sweep_formulas.Goals as goal
 
 pub returns : goal.returns
-returns g c told asked open_faults read_faults =
+returns g c files =
     let summary = c.in_ok-summary.summary in
-    let right = for_any told (λ held. IsSwept c.args.seed c.args.count (record { status = Done; out = summary_text summary; err = [] }))
+    let right = for_any files.told (λ held. IsSwept c.args.seed c.args.count (record { status = Done; out = summary_text summary; err = [] }))
     (λ held. record { summary = summary; is = c.in_ok-summary.ensures; status = refl; says = refl; no_message = refl }) in
-    performs_none [] told asked open_faults read_faults
-    (answers_reply _ _ _ _ _ Done (summary_text summary) right refl Done refl _ c.reply_with.ensures)
+    performs_none [] files (answers_reply _ _ _ Done (summary_text summary) right refl Done refl _ c.reply_with.ensures)

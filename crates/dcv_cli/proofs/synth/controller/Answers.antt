@@ -1,5 +1,5 @@
 -- The unit is that of a controller which is right for the automaton's table, and wins as that does.
-use Rattle.dcv_cli.proofs.Common.{◌≤◌, ◌-◌, List, take, refl, sym, ap, ◌∙◌, subst, AreNames, Name, IsControlOf, Realisable}
+use Rattle.dcv_cli.proofs.Common.{◌≤◌, ◌-◌, take, refl, sym, ap, ◌∙◌, subst, IsControlOf, Realisable}
 use Rattle.dcv_automaton_file.specs.File.{texts_of}
 use Rattle.dcv_dfa.specs.Raw.{automaton_of}
 use Rattle.dcv_synth.specs.Units.{unit_of}
@@ -8,19 +8,17 @@ use Rattle.dcv_cli.proofs.synth.controller.Goals as goal
 
 pub unit-requires-clause-names : goal.unit-requires-clause-names
 unit-requires-clause-names c =
-    subst (λ (names : List Name). AreNames (texts_of (take c.args.inputs names))) (sym c.deref.ensures.value)
-    (names_of_inputs c.args.inputs c.args.judged.now.names.items c.requires.printable.names)
+    names_of_inputs c.args.inputs c.args.names.now c.requires.printable.are_names
 
 pub returns : goal.returns
 returns c k L of =
     let n = c.args.inputs in
-    let raw = c.args.judged.now.auto in
-    let names = c.args.judged.now.names.items in
+    let raw = c.args.built.now.auto in
+    let names = c.args.names.now in
     let control = c.args.control.now in
     let within : n ≤ k = subst (λ count. n ≤ count) of.slots c.requires.inputs in
     let control_is = subst (λ count. IsControlOf n (count - n) (automaton_of raw) control) of.slots c.requires.control in
-    let same = c.in_ok-unit.ensures.unit ∙ ap (λ (some : List Name). unit_of (texts_of (take n some)) control) c.deref.ensures.value
-    ∙ ap (λ texts. unit_of texts control) (sym (texts_of_some n names)) in
+    let same = c.in_ok-unit.ensures.unit ∙ ap (λ texts. unit_of texts control) (sym (texts_of_some n names)) in
     Realisable
     (says_controller c.answers_are_of_tables.ensures.tables n (k - n) L raw (of_set n k L raw c.states.ensures.raw c.states.ensures.auto.start within of)
     c.answers_are_of_tables.ensures.controls c.controls_win.ensures c.winners_of_same_behaviours.ensures.wins c.texts_spell_units.ensures.back

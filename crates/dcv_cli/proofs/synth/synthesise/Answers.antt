@@ -9,8 +9,8 @@ use Rattle.dcv_cli.proofs.synth.synthesise.Goals as goal
 pub returns-in-Strategy : goal.returns-in-Strategy
 returns-in-Strategy c k L of =
     let n = c.args.inputs in
-    let raw = c.args.judged.now.auto in
-    let some = (divided n (length c.args.judged.now.names.items) c.requires.divided).some in
+    let raw = c.args.built.now.auto in
+    let some = (divided n (length c.args.names.now) c.requires.divided).some in
     let within : n ≤ k = subst (λ count. n ≤ count) (c.requires.printable.slots ∙ of.slots) some in
     let strategy = subst (λ (outcome : Outcome). IfStrategy outcome (IsUnrealisable n (raw.arena.slots - n) (automaton_of raw))) c.in-Strategy.is
     c.in_ok-control.ensures.strategy in

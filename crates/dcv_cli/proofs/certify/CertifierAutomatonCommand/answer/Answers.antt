@@ -7,7 +7,7 @@ use Rattle.dcv_cli.proofs.certify.CertifierAutomatonCommand.answer.Goals as goal
 pub returns : goal.returns
 returns g c =
     let answer = c.in_ok-answer.answer in
-    answers_reply _ _ _ _ _ (status_of_answer answer) (line (answer_words c.states.result answer))
+    answers_reply _ _ _ (status_of_answer answer) (line (answer_words c.states.result answer))
     (record {
       answer = answer;
       is = c.in_ok-answer.ensures.answer;

@@ -5,5 +5,5 @@ use Rattle.dcv_cli.proofs.convert.ConverterAutomatonCommand.answer.Goals as goal
 
 pub returns : goal.returns
 returns g c =
-    answers_reply _ _ _ _ _ Done (conversion_text c.in_version-conversion.result) (record { status = refl; says = c.in_version-conversion.ensures; no_message = refl }) refl Done refl _
+    answers_reply _ _ _ Done (conversion_text c.in_version-conversion.result) (record { status = refl; says = c.in_version-conversion.ensures; no_message = refl }) refl Done refl _
     c.reply_with.ensures

@@ -1,0 +1,202 @@
+// A formula file that was read: its core and the names of its variables, and what is built of these.
+ghost use Rattle.std.specs.Prelude.{◌≡◌, ◌<◌, ◌≤◌, ℕ, List, Some, length, slice_get, IfOk, IfErr, IsTrue};
+ghost use Rattle.std.specs.Bool.{OnTrue};
+ghost use Rattle.std.specs.Option.{option_map};
+ghost use Rattle.dcv_syntax.specs.Plain.{PlainFile};
+ghost use Rattle.dcv_core.specs.Core.{CoreTree};
+ghost use Rattle.dcv_core.specs.Steps.{steps_of};
+ghost use Rattle.dcv_language.specs.Language.{Language};
+ghost use Rattle.dcv_language.specs.Verdict.{IsVerdict};
+ghost use Rattle.dcv_build.specs.Budget.{IsRawOf};
+ghost use Rattle.dcv_build.specs.Given.{IsCore, IsCoreOf};
+ghost use Rattle.dcv_command.specs.Request.{AreInRange};
+ghost use Rattle.dcv_explore.specs.declared.explorer.Limits.{Limits as AnyLimits};
+ghost use Rattle.dcv_print.specs.Printed.{texts_of};
+ghost use Rattle.dcv_print.specs.Verdict.{seen_verdict};
+ghost use Rattle.dcv_cli.specs.Budget.{steps_of_file, NamesFirstOver, IsAtSomeStep, IsFaultOver};
+ghost use Rattle.dcv_cli.specs.Comparison.{have_same_texts};
+ghost use Rattle.dcv_cli.specs.FormulaFile.{IsRefused};
+ghost use Rattle.dcv_cli.specs.Held.{IsHeldSuch};
+ghost use Rattle.dcv_cli.specs.Outside.{of_files};
+ghost use Rattle.dcv_cli.specs.Performed.{Takes};
+ghost use Rattle.dcv_cli.specs.ReadFile.{IsRead, IsBuilt, IsDecided, CanBePrinted};
+ghost use Rattle.dcv_cli.specs.Refusal.{most_bytes, is_of_text, status_of};
+ghost use Rattle.dcv_cli.specs.Status.{is_determined};
+
+use crate::budget_line::{Excess, Over};
+use crate::faults::{FormulaFault, MOST_BYTES};
+use crate::refusal::Refusal;
+use crate::text::take;
+use dcv_build::{BuildFault, Built, BuiltRaw, build_counted, build_raw};
+use dcv_core::Core;
+use dcv_explore::Limits;
+use dcv_io::Files;
+use dcv_language::laws::{canonical_for_same_behaviours, verdict_of_same_behaviours};
+use dcv_print::{Verdict, verdict_in};
+use dcv_reader::laws::names_are_short;
+use dcv_reader::read_file;
+use dcv_scope::expand;
+use dcv_scope::laws::{core_means_text, measures_bound_core};
+use dcv_syntax::{File, Name};
+use std::alloc::{AllocError, Global};
+
+/// What is kept of a formula file.
+#[derive(Drop)]
+pub struct FormulaFile {
+    // the goal without macros and names
+    core: Core,
+    // the declared variables, in order
+    names: Vec<Name>,
+}
+
+impl FormulaFile {
+    /// What is kept of the file of this name.
+    pub(crate) fn take<F: Files>(
+        alloc: Global,
+        files: &mut F,
+        name: &str,
+    ) -> Result<FormulaFile, Refusal>
+        ensures read { IfOk result (λ formula. IsHeldSuch (F.told files.old) name.now (λ text. (file : PlainFile) × IsRead text file formula)) }
+        ensures refused { IfErr result (λ refusal. OnTrue (is_determined (status_of refusal))
+            (IsHeldSuch (F.told files.old) name.now (λ text. IsRefused text refusal))) }
+        ensures taken { Takes name.now result (of_files F.Files files.old) (of_files F.Files files.new) }
+    {
+        let too_long = Refusal::Formula(FormulaFault::Length);
+        let text = take(alloc, files, name, MOST_BYTES, too_long)?;
+        FormulaFile::of_text(alloc, &text)
+    }
+
+    // What is kept of the file that the text spells.
+    fn of_text(alloc: Global, text: &[u8]) -> Result<FormulaFile, Refusal>
+        requires { length text.now ≤ most_bytes }
+        ensures read { IfOk result (λ formula. (file : PlainFile) × IsRead text.now file formula) }
+        ensures refused { IfErr result (λ refusal. OnTrue (is_determined (status_of refusal)) (IsRefused text.now refusal)) }
+        ensures own { IfErr result (λ refusal. IsTrue (is_of_text refusal)) }
+    {
+        let file = read_file(alloc, text)?;
+        let core = expand(alloc, &file);
+        let names = names_of(file);
+        let core = core?;
+        Ok(FormulaFile { core, names })
+    }
+
+    /// The declared variables, in order.
+    pub(crate) fn names(&self) -> &[Name]
+        ensures { result.now ≡ self.now.names.items }
+    {
+        &self.names
+    }
+
+    /// Whether the other file declares the same names in the same order.
+    pub(crate) fn has_names_of(&self, other: &FormulaFile) -> bool
+        ensures { result ≡ have_same_texts (texts_of self.now.names.items) (texts_of other.now.names.items) }
+    {
+        have_same_names(&self.names, &other.names)
+    }
+
+    /// The canonical automaton of the behaviours that model the file, and what each step of its goal took.
+    pub(crate) fn build(&self, alloc: Global, limits: Limits) -> Result<Built, Refusal>
+        requires { IsCore self.now.core }
+        ensures built { (text : List ℕ) (file : PlainFile) → IsRead text file self.now → IfOk result (IsBuilt file limits) }
+        ensures printable { (text : List ℕ) (file : PlainFile) → IsRead text file self.now → AreInRange limits
+            → IfOk result (CanBePrinted self.now.names.items) }
+        ensures over { (text : List ℕ) (file : PlainFile) → IsRead text file self.now → IfErr result (NamesFirstOver (steps_of_file file) limits) }
+    {
+        core_means_text();
+        canonical_for_same_behaviours();
+        names_are_short();
+        measures_bound_core();
+        match build_counted(alloc, &self.core, limits) {
+            Ok(built) => Ok(built),
+            Err(fault) => Err(refusal_of(&self.core, fault)),
+        }
+    }
+
+    /// The verdict of the behaviours that model the file, of an automaton that is not minimised: shortest words are found in any.
+    pub(crate) fn decide(&self, alloc: Global, limits: Limits) -> Result<Verdict, Refusal>
+        requires { IsCore self.now.core }
+        ensures decided { (text : List ℕ) (file : PlainFile) → IsRead text file self.now
+            → IfOk result (λ verdict. IsDecided file limits (seen_verdict verdict)) }
+        ensures over { (text : List ℕ) (file : PlainFile) → IsRead text file self.now → IfErr result (NamesFirstOver (steps_of_file file) limits) }
+    {
+        core_means_text();
+        let built = match build_raw(alloc, &self.core, limits) {
+            Ok(built) => built,
+            Err(fault) => return Err(refusal_of(&self.core, fault)),
+        };
+        Ok(verdict_of(alloc, &built)?)
+    }
+}
+
+// The declared variables, which are all that is kept of the file: a tree that is dropped at the end of `of_text` would give each of its
+// exits an arm for each form of a formula.
+fn names_of(file: File) -> Vec<Name>
+    ensures { result ≡ file.variables }
+{
+    let names = file.variables;
+    names
+}
+
+// Whether both have the same names in the same order.
+fn have_same_names(names: &[Name], others: &[Name]) -> bool
+    ensures { result ≡ have_same_texts (texts_of names.now) (texts_of others.now) }
+{
+    let Some((name, names)) = names.split_first() else {
+        return others.is_empty();
+    };
+    let Some((other, others)) = others.split_first() else {
+        return false;
+    };
+    if name.text.as_bytes() != other.text.as_bytes() {
+        return false;
+    }
+    have_same_names(names, others)
+}
+
+// The verdict of the words for which the automaton was built.
+fn verdict_of(alloc: Global, built: &BuiltRaw) -> Result<Verdict, AllocError>
+    ensures { (k : ℕ) (L : Language) → IsRawOf k L built.now.raw built.now.complemented → IfOk result (λ verdict. IsVerdict k L (seen_verdict verdict)) }
+{
+    verdict_of_same_behaviours();
+    let verdict = verdict_in(alloc, &built.raw)?;
+    if built.complemented {
+        return Ok(Verdict {
+            counterexample: verdict.example,
+            example: verdict.counterexample,
+        });
+    }
+    Ok(verdict)
+}
+
+// The refusal that names the step of a fault.
+fn refusal_of(core: &Core, fault: BuildFault) -> Refusal
+    requires { IsAtSomeStep core.now fault }
+    ensures { (tree : CoreTree) (limits : AnyLimits) → IsCoreOf tree core.now → IsFaultOver (steps_of core.now.declared tree) limits fault
+        → NamesFirstOver (steps_of core.now.declared tree) limits result }
+{
+    match fault {
+        BuildFault::States { step, limit } => {
+            Refusal::Budget(over(core, Excess::States, limit, step))
+        }
+        BuildFault::Nodes { step, limit } => {
+            Refusal::Budget(over(core, Excess::Nodes, limit, step))
+        }
+        BuildFault::Memory => Refusal::Memory,
+    }
+}
+
+// A step of the core that has more than the limit, with the place where its part of the text begins.
+fn over(core: &Core, excess: Excess, limit: u32, step: u32) -> Over
+    requires { step < length core.now.steps }
+    ensures excess { result.excess ≡ excess }
+    ensures limit { result.limit ≡ limit }
+    ensures step { result.step ≡ step }
+    ensures place { option_map (λ s. s.span.start) (slice_get core.now.steps step) ≡ Some result.at }
+{
+    Over {
+        excess,
+        limit,
+        at: core.span(step).start,
+        step,
+    }
+}
