@@ -20,29 +20,19 @@ use Rattle.dcv_cli.proofs.VariableNames.{are_names, no_shift_is_bound}
 
 -- ---- faults of the builder
 
--- what it says of its faults, said of one, and of each tree that the core has the steps of
-module _ {T : Type 0} (core : PlainCore) (limits : Limits) (result : Result T BuildFault)
-    (states : (tree : CoreTree) (step limit : ℕ) → IsCoreOf tree core → result ≡ Err (OverStates step limit)
-    → (limit ≡ limits.states) × IsOver (steps_of core.declared tree) limits TooManyStates step)
-    (nodes : (tree : CoreTree) (step limit : ℕ) → IsCoreOf tree core → result ≡ Err (OverNodes step limit)
-    → (limit ≡ limits.nodes) × IsOver (steps_of core.declared tree) limits TooManyNodes step) where
-  pub fault_over : (fault : BuildFault) → result ≡ Err fault → (tree : CoreTree) → IsCoreOf tree core → IsFaultOver (steps_of core.declared tree) limits fault
-  fault_over (OverStates step limit) is tree of = states tree step limit of is
-  fault_over (OverNodes step limit) is tree of = nodes tree step limit of is
-  fault_over NoMemory is tree of = tt
+-- the place of a step that is over the limits is one of the core's
+pub at_some_step : (core : PlainCore) (limits : Limits) → IsCore core → (fault : BuildFault)
+    → ((tree : CoreTree) → IsCoreOf tree core → IsFaultOver (steps_of core.declared tree) limits fault) → IsAtSomeStep core fault
+at_some_step core limits of fault over = by fault (over of.tree of.is)
+  where
+    there : (kind : Kind) (step : ℕ) → IsOver (steps_of core.declared of.tree) limits kind step → step < length core.steps
+    there kind step over = slice_get_within core.steps step (without_core over.step) (ap (λ steps. slice_get steps step) of.is
+        ∙ slice_get-map without_core (steps_of core.declared of.tree) step ∙ ap (option_map without_core) over.is_there)
 
-  -- the place of a step that is over the limits is one of the core's
-  pub at_some_step : (fault : BuildFault) → result ≡ Err fault → IsCore core → IsAtSomeStep core fault
-  at_some_step fault is of = by fault (fault_over fault is of.tree of.is)
-    where
-      there : (kind : Kind) (step : ℕ) → IsOver (steps_of core.declared of.tree) limits kind step → step < length core.steps
-      there kind step over = slice_get_within core.steps step (without_core over.step) (ap (λ steps. slice_get steps step) of.is
-          ∙ slice_get-map without_core (steps_of core.declared of.tree) step ∙ ap (option_map without_core) over.is_there)
-
-      by : (fault : BuildFault) → IsFaultOver (steps_of core.declared of.tree) limits fault → IsAtSomeStep core fault
-      by (OverStates step limit) over = there TooManyStates step over.1
-      by (OverNodes step limit) over = there TooManyNodes step over.1
-      by NoMemory over = tt
+    by : (fault : BuildFault) → IsFaultOver (steps_of core.declared of.tree) limits fault → IsAtSomeStep core fault
+    by (OverStates step limit) over = there TooManyStates step over.1
+    by (OverNodes step limit) over = there TooManyNodes step over.1
+    by NoMemory over = tt
 
 -- ---- verdicts
 

@@ -8,7 +8,7 @@ pub use Rattle.dcv_automaton_text.specs.Meaning.{access_words_of}
 pub use Rattle.dcv_automaton_text.specs.Rules.{AreNames, IsPlainName, most_steps}
 pub use Rattle.dcv_automaton_text.specs.Spelled.{end_lines, spelled_line, step_part}
 pub use Rattle.dcv_automaton_text.specs.Versions.{first_version, second_version}
-pub use Rattle.dcv_build.specs.Budget.{IsAutomatonOf, IsOver, IsWithinBudget, row_at}
+pub use Rattle.dcv_build.specs.Budget.{IsAutomatonOf, IsFaultOver, IsOver, IsWithinBudget, row_at}
 pub use Rattle.dcv_build.specs.Counts.{AreCounts}
 pub use Rattle.dcv_build.specs.declared.builder.Built.{Built}
 pub use Rattle.dcv_build.specs.Laws.{MachineAcceptsStep, WithinExcludesOver}
@@ -22,7 +22,7 @@ pub use Rattle.dcv_certify.specs.declared.answer.Answer.{Answer}
 pub use Rattle.dcv_certify.specs.declared.answer.Answer.TheVariants.{Access, Minimal, Pair}
 pub use Rattle.dcv_cli.specs.Automaton.{SaysAutomaton}
 pub use Rattle.dcv_cli.specs.AutomatonFile.{BreaksARule, HasNoForm, IsAutomatonText, IsRefusedAutomaton, OnAutomaton}
-pub use Rattle.dcv_cli.specs.Budget.{IsAtSomeStep, IsBudgeted, IsFaultOver, IsFirstOver, NamesFirstOver, OverBudget, WithinBudget, kind_of, limit_of, steps_of_file}
+pub use Rattle.dcv_cli.specs.Budget.{IsAtSomeStep, IsBudgeted, IsFirstOver, NamesFirstOver, OverBudget, WithinBudget, kind_of, limit_of, steps_of_file}
 pub use Rattle.dcv_cli.specs.Certificate.{IsCertificate, answer_words, status_of_answer}
 pub use Rattle.dcv_cli.specs.Comparison.{Declared, IsCompared, IsDifference, OverProduct, Undeclared, WithinProduct, compared, comparison_text, have_same_texts}
 pub use Rattle.dcv_cli.specs.Conversion.{IsConverted, as_version}

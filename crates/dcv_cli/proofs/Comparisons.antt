@@ -1,5 +1,5 @@
 -- What is right where two formula files are compared.
-use Rattle.dcv_cli.proofs.Common.{◌≡◌, ◌≢◌, ℕ, Bool, true, false, List, [], ◌∷◌, length, Option, None, Some, refl, sym, ap, ◌∙◌, subst}
+use Rattle.dcv_cli.proofs.Common.{◌≡◌, ◌≢◌, ℕ, ◌+◌, Bool, true, false, List, [], ◌∷◌, length, Option, None, Some, refl, sym, ap, ◌∙◌, subst}
 use Rattle.dcv_cli.proofs.Common.{codes, IsTrue, ◌↔◌, not, is_some, bytes_eq, bytes_eq-Decides, length-map, true≢false, Asks, Disk, held_of}
 use Rattle.dcv_cli.proofs.Common.{asks_in_turn, Puts, puts_both, Word, PlainFile, Name, models, line, Language, IsLeastOf, TooManyStates}
 use Rattle.dcv_cli.proofs.Common.{TooManyNodes, Limits, IsAutomatonOf, IsWithinBudget, Built, IsAuto, raw_accepts, difference, letters_of, IsIncluded}
@@ -19,9 +19,10 @@ use Rattle.dcv_implies.specs.declared.faults.OutsideFault.{OutsideFault}
 use Rattle.dcv_implies.specs.declared.faults.OutsideFault.TheVariants as outside
 use Rattle.dcv_cli.specs.Comparison.{LeavesComparison, OfFirst, OfSecond}
 use Rattle.dcv_cli.proofs.ThreeEnds.{for_any, for_text}
-use Rattle.dcv_cli.proofs.TwoFiles.{later_held}
+use Rattle.dcv_io.specs.Disk.{WhereTold, ReadsAtMost}
+use Rattle.dcv_cli.proofs.TwoFiles.{later_held, some_same}
 use Rattle.dcv_cli.specs.Performed.{LeavesOne}
-use Rattle.dcv_cli.specs.Refusal.{refusal_of_outside}
+use Rattle.dcv_cli.specs.Refusal.{most_bytes, refusal_of_outside}
 
 -- ---- what is written
 
@@ -157,16 +158,26 @@ fulfils_both told told' first second text limits one outcome same there formula 
         let second_right = on_held (late 0 second) (λ text. on_text (λ file. from file outcome)) right in
         rw there (ReadFile one formula (subst (λ held. OnHeld held second (λ text. OnText text Second (IsCompared limits one)) outcome) (sym same) second_right))
 
+-- what was read of a file that is held is told from before the other was opened
+reads_from : (told mid after : Option Disk) (name : List ℕ) (most : ℕ) → held_of mid ≡ held_of told → WhereTold (ReadsAtMost name most) mid after → WhereTold (ReadsAtMost name most) told after
+reads_from None None after name most same read = read
+reads_from None (Some disk) after name most same read = let wrong : Some disk.held ≡ None = same in cc
+reads_from (Some disk) None after name most same read = let wrong : None ≡ Some disk.held = same in cc
+reads_from (Some disk) (Some mid) None name most same read = absurd read
+reads_from (Some disk) (Some mid) (Some after) name most same read =
+    subst (λ (held : List ℕ → Option (List ℕ)). ReadsAtMost name most (record mid { held = held }) after) (some_same mid.held disk.held same) read
+
 -- nothing was written where the second file failed, after a first without a fault
 pub leaves_both : (first second text : List ℕ) (limits : Limits) (file : PlainFile) (before from after : Outside) (bytes : List ℕ) → Asks (first ∷ []) before.asked from.asked
-    → IsHeldText before.told first text → IsFormulaFile text file → LeavesOne second from after bytes → LeavesFor (Implies first second limits) before after bytes
-leaves_both first second text limits file before from after bytes asked there is left =
+    → held_of from.told ≡ held_of before.told → IsHeldText before.told first text → IsFormulaFile text file → LeavesOne most_bytes second from after bytes
+    → LeavesFor (Implies first second limits) before after bytes
+leaves_both first second text limits file before from after bytes asked same there is left =
     let both = asks_in_turn before.asked from.asked after.asked (first ∷ []) (second ∷ []) asked left.holds.asked in
     for_text before.told first text (λ held. LeavesComparison first second held before after bytes) there
-    (λ held here. OfSecond both (record { text = text; there = here; file = file; is = is }) left.holds.none)
+    (λ held here. OfSecond both (reads_from before.told from.told after.told second (most_bytes + 1) same left.holds.read) (record { text = text; there = here; file = file; is = is }) left.holds.none)
 
 -- nor where the first did
 pub leaves_first : (first second : List ℕ) (limits : Limits) (before after : Outside) → Asks (first ∷ []) before.asked after.asked
-    → LeavesFor (Implies first second limits) before after []
-leaves_first first second limits before after asked =
-    for_any before.told (λ held. LeavesComparison first second held before after []) (λ held. OfFirst asked refl)
+    → WhereTold (ReadsAtMost first (most_bytes + 1)) before.told after.told → LeavesFor (Implies first second limits) before after []
+leaves_first first second limits before after asked read =
+    for_any before.told (λ held. LeavesComparison first second held before after []) (λ held. OfFirst asked read refl)

@@ -95,6 +95,7 @@ module _ {words : List (List ℕ)} {request : Request} (asked : AsksFor words re
         takes = λ is taken. usage is;
         asked = λ of. (request, asked);
         files = inr (request, asked, is.asked);
+        calls = inr (request, asked, is.calls);
         input = is.input;
         output = ends.output;
         cause = cause;

@@ -1,5 +1,5 @@
 -- The observer of a replay, and what is right for the trace after it.
-use Rattle.dcv_cli.proofs.Common.{◌≡◌, ◌≢◌, ◌≤◌, ℕ, List, [], ◌∷◌, length, Option, Some, refl, sym, subst, ◌∙◌}
+use Rattle.dcv_cli.proofs.Common.{◌≡◌, ◌≢◌, ◌≤◌, ◌+◌, ℕ, List, [], ◌∷◌, length, Option, Some, refl, sym, subst, ◌∙◌}
 use Rattle.dcv_cli.proofs.Common.{OnTrue, Asks, Disk, held_of, asks_in_turn, Replay, Subset, InLustre, InC, ObsFault, Observer}
 use Rattle.dcv_cli.proofs.Common.{KeepsTheRules, Refusal, Only, Texts, OnHeld, IsHeldSuch, IsHeldText, IsFaultIn, IsRefusedObserver, IsObserverText}
 use Rattle.dcv_cli.proofs.Common.{OnObserver, Outcome, IsExplained, Outside, LeavesFor, most_observer_bytes, refusal_of_observer}
@@ -10,6 +10,7 @@ use Rattle.dcv_replay.specs.Observer.{Lustre, C}
 use Rattle.dcv_cli.specs.ObserverFile.{Faulty, Refused, Read}
 use Rattle.dcv_cli.specs.Replayed.{LeavesAnswers, OfObserver, OfOpen as NotOpened, OfRead as ReadFailed}
 use Rattle.dcv_cli.proofs.ThreeEnds.{explains_first, for_any}
+use Rattle.dcv_io.specs.Disk.{WhereTold, ReadsAtMost}
 use Rattle.dcv_cli.proofs.TwoFiles.{later_held}
 
 -- a fault of the text is a right refusal
@@ -46,16 +47,16 @@ module _ (subset : Subset) (told : Option Disk) (name trace : List ℕ) where
         moves held late here next right = rw here (Read observer is (subst (λ held. OnHeld held trace (IsReplay observer) outcome) (sym next) right))
 
 -- what was written where the trace failed is what was written for both
-pub leaves_replay : (subset : Subset) (name trace text : List ℕ) (observer : Observer) (told : Option Disk) (asked : Option (List (List ℕ))) (before after : Outside) (bytes : List ℕ)
+pub leaves_replay : (subset : Subset) (name trace text : List ℕ) (observer : Observer) (told : Option Disk) (asked : Option (List (List ℕ))) (calls : ℕ) (before after : Outside) (bytes : List ℕ)
     → Asks (name ∷ []) before.asked asked → held_of told ≡ held_of before.told → IsHeldText before.told name text → IsObserverText subset text observer
-    → LeavesTrace observer trace (record before { told = told; asked = asked }) after bytes
+    → LeavesTrace observer trace (record before { told = told; asked = asked; calls = calls }) after bytes
     → LeavesFor (Replay subset name trace) before after bytes
-leaves_replay subset name trace text observer told asked before after bytes one same there is left =
+leaves_replay subset name trace text observer told asked calls before after bytes one same there is left =
     later_held before.told told name text (λ held. LeavesOfTrace observer trace (held 0 trace) from after bytes)
     (λ held. LeavesAnswers subset name trace held before after bytes) same there moves left
   where
     from : Outside
-    from = record before { told = told; asked = asked }
+    from = record before { told = told; asked = asked; calls = calls }
 
     both : Asks (trace ∷ []) asked after.asked → Asks (name ∷ trace ∷ []) before.asked after.asked
     both later = asks_in_turn before.asked asked after.asked (name ∷ []) (trace ∷ []) one later
@@ -75,6 +76,6 @@ leaves_replay subset name trace text observer told asked before after bytes one 
 
 -- nothing was written where the observer's file failed
 pub leaves_before_trace : (subset : Subset) (name trace : List ℕ) (before after : Outside) → Asks (name ∷ []) before.asked after.asked
-    → LeavesFor (Replay subset name trace) before after []
-leaves_before_trace subset name trace before after asked =
-    for_any before.told (λ held. LeavesAnswers subset name trace held before after []) (λ held. OfObserver asked refl)
+    → WhereTold (ReadsAtMost name (most_observer_bytes + 1)) before.told after.told → LeavesFor (Replay subset name trace) before after []
+leaves_before_trace subset name trace before after asked read =
+    for_any before.told (λ held. LeavesAnswers subset name trace held before after []) (λ held. OfObserver asked read refl)

@@ -1,6 +1,6 @@
 -- How each command keeps to what all of them do: by a refusal before anything is written, a report that is written whole, or one whose writing
 -- failed; and a replay by a fault of the trace, or of a read of it, after what was written.
-use Rattle.dcv_cli.proofs.Common.{◌≡◌, ℕ, Bool, true, false, List, [], ◌∷◌, Option, None, Some, Result, Ok, Err, length, refl, sym, ap, ◌∙◌}
+use Rattle.dcv_cli.proofs.Common.{◌≡◌, ℕ, ◌+◌, Bool, true, false, List, [], ◌∷◌, Option, None, Some, Result, Ok, Err, length, refl, sym, ap, ◌∙◌}
 use Rattle.dcv_cli.proofs.Common.{subst, inl, inr, arith, take-length, IfErr, IsTrue, IsFalse, if◌then◌else◌, OnTrue, true≢false, Disk, has_risen}
 use Rattle.dcv_cli.proofs.Common.{RisesIf, Appends, AppendsPrefix, AppendsStrictPrefix, strict_is_prefix, Refusal, Open, Trace, Write}
 use Rattle.dcv_cli.proofs.Common.{Status, Valid, Done, NotValid, Input, Output, TraceFault, EndsBy, HasInputCause, NoneRises, Texts, OnHeld}
@@ -251,8 +251,8 @@ no_input_refusal (Err refused) not = by refused.refusal not
     by Read not = absurd (true≢false not)
     by _ not = (refl, refl)
 
-module _ {T : Type 0} (Right : Outcome → Type 0) (Left : Outside → Outside → List ℕ → Type 0) {name : List ℕ} (others : List (List ℕ)) {old new : Outside} (refusal : Refusal)
-    (takes : Takes {T = T} name (Err refusal) old new) (out : Stream) where
+module _ {T : Type 0} (Right : Outcome → Type 0) (Left : Outside → Outside → List ℕ → Type 0) {name : List ℕ} (others : List (List ℕ)) {old new : Outside} (refusal : Refusal) {limit : ℕ} (more : ℕ)
+    (takes : Takes {T = T} limit name (Err refusal) old new) (out : Stream) where
   abbrev before : Outside
   before = with_output old out
 
@@ -261,34 +261,36 @@ module _ {T : Type 0} (Right : Outcome → Type 0) (Left : Outside → Outside �
 
   -- the first file failed, or is refused
   untaken : (which : Which) → OnTrue (has_cause (status_of refusal)) (which ≡ Only) → IsExplained Right which refusal → Left before after []
-      → Performs Right Left (name ∷ others) (Err (of refusal which)) before after
+      → Performs Right Left (name ∷ others) (limit + 2 + more) (Err (of refusal which)) before after
   untaken which none explained left =
       let some : (bytes : List ℕ) × Left before after bytes × Appends out.written out.written bytes = ([], left, nothing_told out.written) in
       record {
         ends = ends_refused Right out out refusal which takes.taking none explained (nothing_told out.written) refl;
         left = on_true _ some;
         asked = (1, takes.asked);
+        calls = let few = takes.calls in omega arith;
         input = input_of refusal _ _ _ _ takes.taking takes.opened takes.read;
         opened = risen (is_open refusal) _ _ takes.opened;
         read = risen (is_read refusal) _ _ takes.read;
         held = takes.held;
       }
 
-  pub performs_untaken : (which : Which) → IsExplained Right which refusal → Left before after [] → Performs Right Left (name ∷ others) (Err (marked which refusal)) before after
+  pub performs_untaken : (which : Which) → IsExplained Right which refusal → Left before after [] → Performs Right Left (name ∷ others) (limit + 2 + more) (Err (marked which refusal)) before after
   performs_untaken which explained left = untaken (marked which refusal).which (marked_none which refusal) (marked_explains Right which refusal explained) left
 
-  pub performs_only : IsExplained Right Only refusal → Left before after [] → Performs Right Left (name ∷ others) (Err (only refusal)) before after
+  pub performs_only : IsExplained Right Only refusal → Left before after [] → Performs Right Left (name ∷ others) (limit + 2 + more) (Err (only refusal)) before after
   performs_only explained left = untaken Only (on_true (has_cause (status_of refusal)) refl) explained left
 
 -- no file is asked for
-pub performs_none : {Right : Outcome → Type 0} {Left : Outside → Outside → List ℕ → Type 0} {result : Result Status Refused} {old new : Stream} (names : List (List ℕ)) (files : Outside)
-    → Answers Right result old new → Performs Right Left names result (with_output files old) (with_output files new)
-performs_none {result = result} names files is =
+pub performs_none : {Right : Outcome → Type 0} {Left : Outside → Outside → List ℕ → Type 0} {result : Result Status Refused} {old new : Stream} (names : List (List ℕ)) (calls : ℕ) (files : Outside)
+    → Answers Right result old new → Performs Right Left names calls result (with_output files old) (with_output files new)
+performs_none {result = result} names calls files is =
     let none = no_input_refusal result is.no_input in
     record {
       ends = is.ends;
       left = rw is.no_input tt;
       asked = asks_no_prefix files.asked names;
+      calls = omega arith;
       input = no_cause (ending result) _ _ _ _ is.no_input (refl, refl);
       opened = rw none.0 tt;
       read = rw none.1 tt;

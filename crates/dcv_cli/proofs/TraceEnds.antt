@@ -7,7 +7,8 @@ use Rattle.dcv_cli.proofs.Common.{Trace, Write, Only, Done, Status, Output, HasI
 use Rattle.dcv_cli.proofs.Common.{ending, is_input, OnTrue, has_risen, IsReplay, fault_of_trace, status_of_trace, message_of_trace, FulfilsTrace, LeavesTrace}
 use Rattle.dcv_cli.proofs.Common.{LeavesOfTrace, OfOpen, OfRead}
 use Rattle.std.proofs.Math.Seq.{take-append_seam}
-use Rattle.std.specs.Prelude.{nat_lt, ◌||◌, ◌==◌, ◌^◌}
+use Rattle.dcv_replay.specs.Coming.{most_reads}
+use Rattle.std.specs.Prelude.{nat_lt, ◌+◌, ◌||◌, ◌==◌, ◌^◌}
 use Rattle.dcv_replay.specs.Laws.{LinesAreFront, AnswersOfFront}
 use Rattle.dcv_replay.specs.Program.{ReplayValue}
 use Rattle.dcv_replay.specs.Replayed.{HasLines, ReadCount, Replayed, is_open, is_write}
@@ -25,6 +26,7 @@ use Rattle.dcv_cli.proofs.ThreeEnds.{ends_at_fault, ends_broken, ends_cut, ends_
 -- what a run over the trace of this name says of the counts
 pub record Counts {T : Type 0} (name : List ℕ) (result : Result T ReplayFault) (before after : Outside) : Type 0 where
   pub asked : Asks (name ∷ []) before.asked after.asked
+  pub calls : after.calls ≤ before.calls + 1 + most_reads
   pub opened : RisesIf (is_open result) before.open_faults after.open_faults
   pub read : ReadCount result before.read_faults after.read_faults
   pub faults : RisesIf (is_write result) before.faults after.faults
@@ -73,12 +75,12 @@ module _ (observer : Observer) (name : List ℕ) (before after : Outside) where
         → HasInputCause (ending result) before.open_faults after.open_faults before.read_faults after.read_faults
         → OnTrue (is_open_refusal result) (IsTrue (has_risen before.open_faults after.open_faults))
         → OnTrue (is_read_refusal result) (IsTrue (has_risen before.read_faults after.read_faults))
-        → Performs Right (LeavesTrace observer name) (name ∷ []) result before after
+        → Performs Right (LeavesTrace observer name) (name ∷ []) (1 + most_reads) result before after
     performs result ends left input opened read =
-        record { ends = ends; left = left; asked = (1, counts.asked); input = input; opened = opened; read = read; held = counts.held }
+        record { ends = ends; left = left; asked = (1, counts.asked); calls = let few = counts.calls in omega arith; input = input; opened = opened; read = read; held = counts.held }
 
   pub performs_done : {T : Type 0} (done : T) {replay : ReplayValue} → Ran {T = T} (Ok done) replay → Counts {T = T} name (Ok done) before after
-      → Performs Right (LeavesTrace observer name) (name ∷ []) (Ok Done) before after
+      → Performs Right (LeavesTrace observer name) (name ∷ []) (1 + most_reads) (Ok Done) before after
   performs_done done ran counts =
       let traced = ran.traced refl in
       let right = right_for traced.trace (Good ran.letters) ran.text traced.there traced.verdict ran.answers in
@@ -132,7 +134,7 @@ module _ (observer : Observer) (name : List ℕ) (before after : Outside) where
     no_answers letters text none answers = subst (λ (word : Word). AreAnswers observer [] word text) none answers
 
     pub performs_stopped : {T : Type 0} (why : ReplayFault) {replay : ReplayValue} → Ran {T = T} (Err why) replay → Counts {T = T} name (Err why) before after
-        → Performs Right (LeavesTrace observer name) (name ∷ []) (Err (only (refusal_of_replay why))) before after
+        → Performs Right (LeavesTrace observer name) (name ∷ []) (1 + most_reads) (Err (only (refusal_of_replay why))) before after
     performs_stopped fault.Open ran counts =
         let silent = subst (λ (bytes : List ℕ). Appends before.written after.written bytes) (no_answers ran.letters ran.text (ran.unopened refl) ran.answers) (written_whole ran refl) in
         let left = for_any before.told (λ held. LeavesOfTrace observer name (held 0 name) before after []) (λ held. OfOpen counts.asked counts.opened refl) in

@@ -1,5 +1,5 @@
 -- Commands that go on after their first file: what is right for the rest, after that, is right for all.
-use Rattle.dcv_cli.proofs.Common.{◌≡◌, ℕ, List, [], ◌∷◌, Option, None, Some, Result, Ok, refl, sym, ◌∙◌, subst, if◌then◌else◌, Disk}
+use Rattle.dcv_cli.proofs.Common.{◌≡◌, ℕ, ◌+◌, List, [], ◌∷◌, Option, None, Some, Result, Ok, arith, refl, sym, ◌∙◌, subst, if◌then◌else◌, Disk}
 use Rattle.dcv_cli.proofs.Common.{held_of, Appends, Texts, ForHeld, IsHeldText, Outcome, Outside, Stream, with_output, Answers, Performs}
 use Rattle.dcv_cli.proofs.Common.{Takes, ending, is_input, Status}
 use Rattle.std.specs.Prelude.{nat_eq}
@@ -11,7 +11,7 @@ use Rattle.dcv_cli.proofs.ThreeEnds.{moved, on_true_weaker, performs_none}
 abbrev later : List ℕ → Texts → Texts
 later text held time name = if nat_eq time 0 then Some text else held 0 name
 
-some_same : {T : Type 0} (one other : T) → Some one ≡ Some other → one ≡ other
+pub some_same : {T : Type 0} (one other : T) → Some one ≡ Some other → one ≡ other
 some_same one other e = cc
 
 pub later_held : (told told' : Option Disk) (name text : List ℕ) (P Q : Texts → Type 0) → held_of told' ≡ held_of told → IsHeldText told name text
@@ -25,27 +25,28 @@ later_held (Some disk) (Some disk') name text P Q same there moves is =
     record { held = λ time. disk.held; same = λ time. refl; holds = moves (λ time. disk.held) is.held there held is.holds }
 
 -- the first file was taken
-module _ {T : Type 0} {value : T} {first : List ℕ} {old mid : Outside} (takes : Takes first (Ok value) old mid) (out : Stream) where
+module _ {T : Type 0} {value : T} {first : List ℕ} {old mid : Outside} {limit : ℕ} (takes : Takes limit first (Ok value) old mid) (out : Stream) where
   abbrev before : Outside
   before = with_output old out
 
   -- what is seen after it, with counts that were not seen before it
   abbrev counted : ℕ → ℕ → Outside
-  counted opened read = record before { told = mid.told; asked = mid.asked; open_faults = opened; read_faults = read }
+  counted opened read = record before { told = mid.told; asked = mid.asked; calls = mid.calls; open_faults = opened; read_faults = read }
 
   module _ {One Other : Outcome → Type 0} (moves : (outcome : Outcome) → One outcome → Other outcome) (result : Result Status Refused) where
-    pub performs_later : {Left Leaves : Outside → Outside → List ℕ → Type 0} (others : List (List ℕ)) (after : Outside)
+    pub performs_later : {Left Leaves : Outside → Outside → List ℕ → Type 0} (others : List (List ℕ)) (calls : ℕ) (after : Outside)
         → ((bytes : List ℕ) → Left (counted old.open_faults old.read_faults) after bytes → Leaves before after bytes)
-        → Performs One Left others result (with_output mid out) after → Performs Other Leaves (first ∷ others) result before after
-    performs_later {Left = Left} {Leaves = Leaves} others after leaves given =
-        let is = subst (λ n. Performs One Left others result (counted old.open_faults n) after) takes.read
-        (subst (λ n. Performs One Left others result (counted n mid.read_faults) after) takes.opened given) in
+        → Performs One Left others calls result (with_output mid out) after → Performs Other Leaves (first ∷ others) (limit + 2 + calls) result before after
+    performs_later {Left = Left} {Leaves = Leaves} others calls after leaves given =
+        let is = subst (λ n. Performs One Left others calls result (counted old.open_faults n) after) takes.read
+        (subst (λ n. Performs One Left others calls result (counted n mid.read_faults) after) takes.opened given) in
         let left : (some : (bytes : List ℕ) × Left (counted old.open_faults old.read_faults) after bytes × Appends out.written after.written bytes)
         → (bytes : List ℕ) × Leaves before after bytes × Appends out.written after.written bytes = λ some. (some.0, leaves some.0 some.1, some.2) in
         record {
           ends = moved moves is.ends;
           left = on_true_weaker (is_input (ending result)) left is.left;
           asked = asks_further old.asked mid.asked after.asked (first ∷ []) others takes.asked is.asked;
+          calls = let few = takes.calls in let further = is.calls in omega arith;
           input = is.input;
           opened = is.opened;
           read = is.read;
@@ -54,6 +55,8 @@ module _ {T : Type 0} {value : T} {first : List ℕ} {old mid : Outside} (takes 
 
     -- no other file is read
     pub performs_answered : {Leaves : Outside → Outside → List ℕ → Type 0} (new : Stream) → Answers One result out new
-        → Performs Other Leaves (first ∷ []) result before (with_output mid new)
-    performs_answered new answers =
-        performs_later [] (with_output mid new) (λ bytes none. absurd none) (performs_none {Left = λ _ _ _. ⊥} [] mid answers)
+        → Performs Other Leaves (first ∷ []) (limit + 2) result before (with_output mid new)
+    performs_answered {Leaves = Leaves} new answers =
+        let all : limit + 2 + 0 ≡ limit + 2 = omega arith in
+        subst (λ most. Performs Other Leaves (first ∷ []) most result before (with_output mid new)) all
+        (performs_later [] 0 (with_output mid new) (λ bytes none. absurd none) (performs_none {Left = λ _ _ _. ⊥} [] 0 mid answers))

@@ -4,7 +4,6 @@
 --     IsFirstOver limits file over    this step is the first over the limits, with what it has too much of and where its text begins
 --     NamesFirstOver steps limits r   the refusal names the first of these steps that is over the limits, or memory ran out
 --     IsAtSomeStep core fault         a fault of the builder is at a step of the core
---     IsFaultOver steps limits fault  this is the first of these steps that is over the limits
 --     IsBudgeted limits which Right ..
 --                                     the outcome names the first step over the limits, or there is none and it is right otherwise
 use Rattle.std.specs.Prelude.{◌≡◌, ℕ, ◌<◌, List, Some, length, slice_get}
@@ -48,11 +47,6 @@ abbrev pub IsAtSomeStep : PlainCore → BuildFault → Type 0
 IsAtSomeStep core (OverStates step limit) = step < length core.steps
 IsAtSomeStep core (OverNodes step limit) = step < length core.steps
 IsAtSomeStep core NoMemory = Unit {0}
-
-abbrev pub IsFaultOver : List PlainStep → Limits → BuildFault → Type 0
-IsFaultOver steps limits (OverStates step limit) = (limit ≡ limits.states) × IsOver steps limits TooManyStates step
-IsFaultOver steps limits (OverNodes step limit) = (limit ≡ limits.nodes) × IsOver steps limits TooManyNodes step
-IsFaultOver steps limits NoMemory = Unit {0}
 
 -- Some step is over the limits, and the first such step is named, of this file of the request; or none is, and the outcome is right for the file in another way, `RightFor`.
 pub data IsBudgeted (limits : Limits) (which : Which) (RightFor : PlainFile → Outcome → Type 0) (file : PlainFile) (outcome : Outcome) : Type 0 where

@@ -4,7 +4,7 @@
 --     LeavesComparison first second ..    what was written where an input failed
 --     have_same_texts                     for proofs alone
 --     IsCompared limits one other o       they have the same variables, both are within the limits, and so it is; or the outcome says what is not
-use Rattle.std.specs.Prelude.{◌≡◌, ◌≢◌, ◌↔◌, ℕ, Bool, true, false, ◌&&◌, List, [], ◌∷◌, ◌++◌, Option, None, Some, length, codes}
+use Rattle.std.specs.Prelude.{◌≡◌, ◌≢◌, ◌↔◌, ℕ, Bool, true, false, ◌&&◌, List, [], ◌∷◌, ◌++◌, ◌+◌, Option, None, Some, length, codes}
 use Rattle.dcv_cli.specs.Common.{Word}
 use Rattle.dcv_cli.specs.Common.{PlainFile, models, IsLeastOf, line, Limits, texts_of, Excess, Formula, Product, Declarations, Only, First}
 use Rattle.dcv_cli.specs.Common.{Second, Asks}
@@ -15,7 +15,9 @@ use Rattle.dcv_cli.specs.Budget.{IsBudgeted, kind_of, limit_of}
 use Rattle.dcv_cli.specs.FormulaFile.{IsFormulaFile}
 use Rattle.dcv_cli.specs.Held.{Texts}
 use Rattle.dcv_cli.specs.Outcome.{Outcome, refused}
+use Rattle.dcv_io.specs.Disk.{WhereTold, ReadsAtMost}
 use Rattle.dcv_cli.specs.Outside.{Outside}
+use Rattle.dcv_cli.specs.Refusal.{most_bytes}
 use Rattle.dcv_cli.specs.Status.{status_of_least}
 
 abbrev pub comparison_text : Option Word → List ℕ
@@ -53,11 +55,12 @@ pub record HasFormula (formula_text : Option (List ℕ)) : Type 0 where
   pub file : PlainFile
   pub is : IsFormulaFile text file
 
--- Nothing was written. The second file is asked for after a formula file without a fault alone.
+-- Nothing was written, and of the file that failed at most one byte past the limit was read. The second file is asked for after a formula file
+-- without a fault alone.
 pub data LeavesComparison (first second : List ℕ) (held : Texts) (before after : Outside) (bytes : List ℕ) : Type 0 where
-  OfFirst : Asks (first ∷ []) before.asked after.asked → bytes ≡ [] → LeavesComparison first second held before after bytes
-  OfSecond : Asks (first ∷ second ∷ []) before.asked after.asked → HasFormula (held 0 first) → bytes ≡ []
-      → LeavesComparison first second held before after bytes
+  OfFirst : Asks (first ∷ []) before.asked after.asked → WhereTold (ReadsAtMost first (most_bytes + 1)) before.told after.told → bytes ≡ [] → LeavesComparison first second held before after bytes
+  OfSecond : Asks (first ∷ second ∷ []) before.asked after.asked → WhereTold (ReadsAtMost second (most_bytes + 1)) before.told after.told
+      → HasFormula (held 0 first) → bytes ≡ [] → LeavesComparison first second held before after bytes
 
 -- for proofs alone: whether two lists of texts are the same
 abbrev pub have_same_texts : List (List ℕ) → List (List ℕ) → Bool

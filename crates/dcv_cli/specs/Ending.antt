@@ -4,19 +4,23 @@
 --     StopsWithin Right ..     the output failed before a right report was whole
 --     LeavesOver words ..      what was written where an input failed
 --     AsksFrontOf words ..     which files were asked for
+--     calls_of request         how many opens and reads its files take at most, together
+--     CallsFew words ..        there were no more
 --     HasInputCause ..         what the counts of the files say
 --     Tells, TellsCause        what is on the messages
 use Rattle.std.specs.Bool.{OnTrue}
-use Rattle.std.specs.Prelude.{◌≡◌, ◌⊎◌, ℕ, Bool, List, [], ◌∷◌, Option, IsTrue, IsFalse}
+use Rattle.std.specs.Prelude.{◌≡◌, ◌≤◌, ◌+◌, ◌⊎◌, ℕ, Bool, List, [], ◌∷◌, Option, IsTrue, IsFalse}
 use Rattle.dcv_cli.specs.Common.{Asks, AsksPrefix, has_risen, Rises}
 use Rattle.dcv_cli.specs.Common.{Appends, AppendsStrictPrefix, Request, Report, Certify, Convert, Implies, Stuck, Synth, Replay, Sweep}
 use Rattle.dcv_cli.specs.Common.{files_of, Open, Read, Write, Status, Input, Output, Memory}
+use Rattle.dcv_io.specs.Disk.{WhereTold, ReadsAtMost}
 use Rattle.dcv_io.specs.Written.{AppendsPrefix}
+use Rattle.dcv_replay.specs.Coming.{most_reads}
 use Rattle.dcv_cli.specs.declared.refusal.Refusal.TheVariants.{Memory as OutOfMemory}
 use Rattle.dcv_cli.specs.Comparison.{LeavesComparison}
 use Rattle.dcv_cli.specs.Outcome.{Outcome}
 use Rattle.dcv_cli.specs.Outside.{Outside}
-use Rattle.dcv_cli.specs.Refusal.{message_of, only}
+use Rattle.dcv_cli.specs.Refusal.{message_of, only, most_bytes, most_automaton_bytes, most_observer_bytes}
 use Rattle.dcv_cli.specs.Status.{has_cause}
 use Rattle.dcv_cli.specs.Request.{AsksFor}
 use Rattle.dcv_cli.specs.Held.{Texts, ForHeld}
@@ -40,19 +44,20 @@ AddsFront Right old new = Appends old new [] ⊎ ((outcome : Outcome) × Right o
 abbrev pub StopsWithin : (Outcome → Type 0) → Option (List ℕ) → Option (List ℕ) → Type 0
 StopsWithin Right old new = (outcome : Outcome) × Right outcome × AppendsStrictPrefix old new outcome.out
 
--- the one file was asked for, and nothing was written
-pub record LeavesNothing (name : List ℕ) (before after : Outside) (bytes : List ℕ) : Type 0 where
+-- the one file was asked for, at most one byte past the limit was read of it, and nothing was written
+pub record LeavesNothing (limit : ℕ) (name : List ℕ) (before after : Outside) (bytes : List ℕ) : Type 0 where
   pub asked : Asks (name ∷ []) before.asked after.asked
+  pub read : WhereTold (ReadsAtMost name (limit + 1)) before.told after.told
   pub none : bytes ≡ []
 
 -- What a run of the request has written where an input failed: nothing, but of a replay the answers up to there. A second file is asked for
 -- after a first without a fault alone.
 abbrev pub Leaves : Request → Texts → Outside → Outside → List ℕ → Type 0
-Leaves (Report kind name limits) held before after bytes = LeavesNothing name before after bytes
-Leaves (Certify name) held before after bytes = LeavesNothing name before after bytes
-Leaves (Convert name to) held before after bytes = LeavesNothing name before after bytes
-Leaves (Stuck name limits) held before after bytes = LeavesNothing name before after bytes
-Leaves (Synth name inputs limits) held before after bytes = LeavesNothing name before after bytes
+Leaves (Report kind name limits) held before after bytes = LeavesNothing most_bytes name before after bytes
+Leaves (Certify name) held before after bytes = LeavesNothing most_automaton_bytes name before after bytes
+Leaves (Convert name to) held before after bytes = LeavesNothing most_automaton_bytes name before after bytes
+Leaves (Stuck name limits) held before after bytes = LeavesNothing most_bytes name before after bytes
+Leaves (Synth name inputs limits) held before after bytes = LeavesNothing most_bytes name before after bytes
 Leaves (Implies first second limits) held before after bytes = LeavesComparison first second held before after bytes
 Leaves (Replay subset observer trace) held before after bytes = LeavesAnswers subset observer trace held before after bytes
 Leaves (Sweep seed count) held before after bytes = bytes ≡ []
@@ -70,6 +75,18 @@ pub record LeavesOver (words : List (List ℕ)) (before after : Outside) : Type 
 -- No file was asked for, or the first of those that the request of the words reads.
 abbrev pub AsksFrontOf : List (List ℕ) → Option (List (List ℕ)) → Option (List (List ℕ)) → Type 0
 AsksFrontOf words old new = Asks [] old new ⊎ ((request : Request) × AsksFor words request × AsksPrefix (files_of request) old new)
+
+-- Each file is opened once, and read to one byte past the greatest size that it may have, a byte at least by each read but the last.
+abbrev pub calls_of : Request → ℕ
+calls_of (Certify name) = most_automaton_bytes + 2
+calls_of (Convert name to) = most_automaton_bytes + 2
+calls_of (Implies first second limits) = most_bytes + 2 + (most_bytes + 2)
+calls_of (Replay subset observer trace) = most_observer_bytes + 2 + (1 + most_reads)
+calls_of (Sweep seed count) = 0
+calls_of _ = most_bytes + 2
+
+abbrev pub CallsFew : List (List ℕ) → ℕ → ℕ → Type 0
+CallsFew words before after = (after ≡ before) ⊎ ((request : Request) × AsksFor words request × (after ≤ before + calls_of request))
 
 abbrev pub NoneRises : ℕ → ℕ → ℕ → ℕ → Type 0
 NoneRises open_before open_after read_before read_after = (open_after ≡ open_before) × (read_after ≡ read_before)

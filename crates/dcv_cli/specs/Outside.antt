@@ -18,6 +18,8 @@ pub record Outside : Type 0 where
   pub asked : Option (List (List ℕ))
   pub open_faults : ℕ
   pub read_faults : ℕ
+  -- how many files were opened or failed to be, and how many reads there were
+  pub calls : ℕ
   pub written : Option (List ℕ)
   pub faults : ℕ
 
@@ -26,7 +28,7 @@ stream words sink = record { written = words.written sink; faults = words.faults
 
 abbrev pub of_files : {F : Type 0} → WordsOfFiles F → F → Outside
 of_files words files =
-    record { told = words.told files; asked = words.asked files; open_faults = words.open_faults files; read_faults = words.read_faults files; written = None; faults = 0 }
+    record { told = words.told files; asked = words.asked files; open_faults = words.open_faults files; read_faults = words.read_faults files; calls = words.calls files; written = None; faults = 0 }
 
 abbrev pub with_output : Outside → Stream → Outside
 with_output files out = record files { written = out.written; faults = out.faults }

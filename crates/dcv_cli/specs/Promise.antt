@@ -10,7 +10,7 @@ use Rattle.dcv_cli.specs.Common.{held_of, has_risen, RisesIf}
 use Rattle.dcv_cli.specs.Common.{Appends, line, Request, IsTaken, Status, Usage, Memory}
 use Rattle.clap.specs.Words.{takes}
 use Rattle.dcv_command.specs.Program.{program}
-use Rattle.dcv_cli.specs.Ending.{EndsBy, AddsFront, StopsWithin, LeavesOver, AsksFrontOf, HasInputCause, Tells, TellsCause}
+use Rattle.dcv_cli.specs.Ending.{EndsBy, AddsFront, StopsWithin, LeavesOver, AsksFrontOf, CallsFew, HasInputCause, Tells, TellsCause}
 use Rattle.dcv_cli.specs.Outside.{Outside, outside}
 use Rattle.dcv_cli.specs.Request.{AsksFor}
 use Rattle.dcv_cli.specs.Right.{IsRightOver}
@@ -50,6 +50,7 @@ pub record Promise (words : List (List ℕ)) (status : Status) (before after : S
   pub asked : IsTrue (is_of_request status) → (request : Request) × AsksFor words request
   -- Each other status has its cause, and no cause is passed over.
   pub files : AsksFrontOf words before.outside.asked after.outside.asked
+  pub calls : CallsFew words before.outside.calls after.outside.calls
   pub input : HasInputCause status before.outside.open_faults after.outside.open_faults before.outside.read_faults after.outside.read_faults
   pub output : RisesIf (is_output status) before.outside.faults after.outside.faults
   -- The message names it.

@@ -2,7 +2,7 @@
 --     fault_of_trace verdict            what is wrong with a trace, if it is not good
 --     IsReplay observer trace outcome   the observer's answers to the good lines of the trace, and what is wrong with it after these
 --     LeavesAnswers subset ..           what was written where an input failed
-use Rattle.std.specs.Prelude.{◌≡◌, ℕ, List, [], ◌∷◌, Option, None, Some}
+use Rattle.std.specs.Prelude.{◌≡◌, ◌+◌, ℕ, List, [], ◌∷◌, Option, None, Some}
 use Rattle.dcv_cli.specs.Common.{Asks, Disk, Rises, Word, Subset, Observer, TraceFault, Line}
 use Rattle.dcv_cli.specs.Common.{Empty, TraceLength as Length, Trace, Status, Done, StatusTrace}
 use Rattle.dcv_replay.specs.Observer.{width_of, AreAnswers}
@@ -12,7 +12,8 @@ use Rattle.dcv_cli.specs.Held.{Texts}
 use Rattle.dcv_cli.specs.ObserverFile.{IsObserverText}
 use Rattle.dcv_cli.specs.Outcome.{Outcome}
 use Rattle.dcv_cli.specs.Outside.{Outside}
-use Rattle.dcv_cli.specs.Refusal.{message_of, only}
+use Rattle.dcv_io.specs.Disk.{WhereTold, ReadsAtMost}
+use Rattle.dcv_cli.specs.Refusal.{message_of, only, most_observer_bytes}
 
 abbrev pub fault_of_trace : Verdict → Option TraceFault
 fault_of_trace (Good letters) = None
@@ -63,7 +64,7 @@ pub record AnswersRead (subset : Subset) (observer_text trace_text : Option (Lis
 
 -- Nothing was written where the observer's file failed or the trace could not be opened. The trace is asked for after an observer alone.
 pub data LeavesAnswers (subset : Subset) (observer trace : List ℕ) (held : Texts) (before after : Outside) (bytes : List ℕ) : Type 0 where
-  OfObserver : Asks (observer ∷ []) before.asked after.asked → bytes ≡ [] → LeavesAnswers subset observer trace held before after bytes
+  OfObserver : Asks (observer ∷ []) before.asked after.asked → WhereTold (ReadsAtMost observer (most_observer_bytes + 1)) before.told after.told → bytes ≡ [] → LeavesAnswers subset observer trace held before after bytes
   OfOpen : Asks (observer ∷ trace ∷ []) before.asked after.asked → Rises before.open_faults after.open_faults → HasObserver subset (held 0 observer) → bytes ≡ []
       → LeavesAnswers subset observer trace held before after bytes
   OfRead : Asks (observer ∷ trace ∷ []) before.asked after.asked → Rises before.read_faults after.read_faults

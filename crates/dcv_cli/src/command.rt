@@ -1,5 +1,5 @@
 // The roads of commands over one file: a formula file, or the text of an automaton.
-ghost use Rattle.std.specs.Prelude.{ℕ, List, [], ◌∷◌, ◌≤◌, length, IfOk, IfErr, IsTrue};
+ghost use Rattle.std.specs.Prelude.{ℕ, ◌+◌, List, [], ◌∷◌, ◌≤◌, length, IfOk, IfErr, IsTrue};
 ghost use Rattle.dcv_syntax.specs.Plain.{PlainFile};
 ghost use Rattle.dcv_cli.specs.FormulaFile.{OnText};
 ghost use Rattle.dcv_cli.specs.Outcome.{Outcome};
@@ -10,7 +10,7 @@ ghost use Rattle.dcv_cli.specs.ReadFile.{IsRead, WasRead};
 ghost use Rattle.dcv_automaton_text.specs.File.{AutomatonFile};
 ghost use Rattle.dcv_cli.specs.AutomatonFile.{IsAutomatonText, IsRefusedAutomaton, OnAutomaton};
 ghost use Rattle.std.specs.Bool.{OnTrue};
-ghost use Rattle.dcv_cli.specs.Refusal.{most_automaton_bytes, is_of_text, status_of};
+ghost use Rattle.dcv_cli.specs.Refusal.{most_bytes, most_automaton_bytes, is_of_text, status_of};
 ghost use Rattle.dcv_cli.specs.Status.{is_determined};
 
 use crate::faults::{AutomatonFault, MOST_AUTOMATON_BYTES};
@@ -49,7 +49,7 @@ pub(crate) fn over_formula<C: FormulaCommand, F: Files, O: Sink>(
 ) -> Ended
     requires { C.fits command.now }
     ensures { Performs (λ outcome. ForHeld (F.told files.old) (λ held. OnHeld (held 0) name.entry.now (λ text. OnText text which (C.right command.entry.now)) outcome))
-        (LeavesOne name.entry.now) (name.entry.now ∷ []) result
+        (LeavesOne most_bytes name.entry.now) (name.entry.now ∷ []) (most_bytes + 2) result
         (outside F.Files O.Sink files.old out.old) (outside F.Files O.Sink files.new out.new) }
 {
     match FormulaFile::take(alloc, files, name) {
@@ -78,7 +78,7 @@ pub(crate) fn over_automaton<C: AutomatonCommand, F: Files, O: Sink>(
     out: &mut O,
 ) -> Ended
     ensures { Performs (λ outcome. ForHeld (F.told files.old) (λ held. OnHeld (held 0) name.entry.now (λ text. OnAutomaton text (C.right command.entry.now)) outcome))
-        (LeavesOne name.entry.now) (name.entry.now ∷ []) result
+        (LeavesOne most_automaton_bytes name.entry.now) (name.entry.now ∷ []) (most_automaton_bytes + 2) result
         (outside F.Files O.Sink files.old out.old) (outside F.Files O.Sink files.new out.new) }
 {
     let too_long = Refusal::Automaton(AutomatonFault::Length);

@@ -7,13 +7,13 @@ ghost use Rattle.dcv_core.specs.Core.{CoreTree};
 ghost use Rattle.dcv_core.specs.Steps.{steps_of};
 ghost use Rattle.dcv_language.specs.Language.{Language};
 ghost use Rattle.dcv_language.specs.Verdict.{IsVerdict};
-ghost use Rattle.dcv_build.specs.Budget.{IsRawOf};
 ghost use Rattle.dcv_build.specs.Given.{IsCore, IsCoreOf};
 ghost use Rattle.dcv_command.specs.Request.{AreInRange};
 ghost use Rattle.dcv_explore.specs.declared.explorer.Limits.{Limits as AnyLimits};
 ghost use Rattle.dcv_print.specs.Printed.{texts_of};
 ghost use Rattle.dcv_print.specs.Verdict.{seen_verdict};
-ghost use Rattle.dcv_cli.specs.Budget.{steps_of_file, NamesFirstOver, IsAtSomeStep, IsFaultOver};
+ghost use Rattle.dcv_build.specs.Budget.{IsFaultOver, IsRawOf};
+ghost use Rattle.dcv_cli.specs.Budget.{steps_of_file, NamesFirstOver, IsAtSomeStep};
 ghost use Rattle.dcv_cli.specs.Comparison.{have_same_texts};
 ghost use Rattle.dcv_cli.specs.FormulaFile.{IsRefused};
 ghost use Rattle.dcv_cli.specs.Held.{IsHeldSuch};
@@ -59,7 +59,7 @@ impl FormulaFile {
         ensures read { IfOk result (λ formula. IsHeldSuch (F.told files.old) name.now (λ text. (file : PlainFile) × IsRead text file formula)) }
         ensures refused { IfErr result (λ refusal. OnTrue (is_determined (status_of refusal))
             (IsHeldSuch (F.told files.old) name.now (λ text. IsRefused text refusal))) }
-        ensures taken { Takes name.now result (of_files F.Files files.old) (of_files F.Files files.new) }
+        ensures taken { Takes most_bytes name.now result (of_files F.Files files.old) (of_files F.Files files.new) }
     {
         let too_long = Refusal::Formula(FormulaFault::Length);
         let text = take(alloc, files, name, MOST_BYTES, too_long)?;

@@ -1,8 +1,9 @@
 // The commands that run an observer over a trace.
-ghost use Rattle.std.specs.Prelude.{◌≡◌, ◌≤◌, [], ◌∷◌, length, IfOk, IfErr, IsTrue};
+ghost use Rattle.std.specs.Prelude.{◌≡◌, ◌≤◌, ◌+◌, [], ◌∷◌, length, IfOk, IfErr, IsTrue};
 ghost use Rattle.std.specs.Bool.{OnTrue};
 ghost use Rattle.dcv_command.specs.Request.{Replay as ReplayRequest};
 ghost use Rattle.dcv_command.specs.declared.words.Subset.TheVariants.{Lustre, C};
+ghost use Rattle.dcv_replay.specs.Coming.{most_reads};
 ghost use Rattle.dcv_replay.specs.Observer.{Observer, KeepsTheRules, Follows};
 ghost use Rattle.dcv_cli.specs.Held.{IsHeldSuch};
 ghost use Rattle.dcv_cli.specs.ObserverFile.{IsRefusedObserver};
@@ -51,7 +52,7 @@ fn observer_file<F: Files>(
     ensures observer { IfOk result (λ replay. IsHeldSuch (F.told files.old) name.now (λ text. IsReplayOf subset text replay)) }
     ensures refused { IfErr result (λ refusal. OnTrue (is_determined (status_of refusal))
         (IsHeldSuch (F.told files.old) name.now (λ text. IsRefusedObserver subset text refusal))) }
-    ensures taken { Takes name.now result (of_files F.Files files.old) (of_files F.Files files.new) }
+    ensures taken { Takes most_observer_bytes name.now result (of_files F.Files files.old) (of_files F.Files files.new) }
 {
     let too_long = Refusal::Observer(ObserverFault::Length);
     let text = take(alloc, files, name, MOST_OBSERVER_BYTES, too_long)?;
@@ -103,7 +104,7 @@ fn answer_trace<F: Files, O: Sink>(
     out: &mut O,
 ) -> Ended
     ensures { (observer : Observer) → KeepsTheRules observer → Follows observer [] replay.old
-        → Performs (FulfilsTrace observer trace.entry.now (F.told files.old)) (LeavesTrace observer trace.entry.now) (trace.entry.now ∷ []) result
+        → Performs (FulfilsTrace observer trace.entry.now (F.told files.old)) (LeavesTrace observer trace.entry.now) (trace.entry.now ∷ []) (1 + most_reads) result
         (outside F.Files O.Sink files.old out.old) (outside F.Files O.Sink files.new out.new) }
 {
     traces_have_one_verdict();

@@ -27,7 +27,7 @@ pub(crate) fn take<F: Files>(
     // Where it is neither the outside nor memory, the text is too long.
     ensures refused { IfErr result (λ refusal. OnTrue (is_determined (status_of refusal))
         ((refusal ≡ too_long) × IsHeldSuch (F.told files.old) name.now (λ text. limit < length text))) }
-    ensures taken { Takes name.now result (of_files F.Files files.old) (of_files F.Files files.new) }
+    ensures taken { Takes limit name.now result (of_files F.Files files.old) (of_files F.Files files.new) }
 {
     match read_all(alloc, files, name, u64::from(limit)) {
         Ok(text) => Ok(text),

@@ -11,10 +11,10 @@ pub returns-in_err-text : goal.returns-in_err-text
 returns-in_err-text g c =
     let p = err_from_is_err_and c.from_residual.result c.from_residual.ensures.1 in
     let refusal = c.in_err-text.field-0.0 in
-    rw (p.1, p.2) (performs_only _ _ [] refusal c.in_err-text.ensures.taken _
+    rw (p.1, p.2) (performs_only _ _ [] refusal 0 c.in_err-text.ensures.taken _
     (explains_text _ _ (g.C.AutomatonCommand.right c.args.command.now) refusal
     (on_true_weaker (is_determined (status_of refusal)) (λ some. record { text = some.1.text; there = some.1.there; is = TooLong some.1.is some.0 }) c.in_err-text.ensures.refused))
-    (for_any _ _ (λ held. record { asked = c.in_err-text.ensures.taken.asked; none = refl })))
+    (for_any _ _ (λ held. record { asked = c.in_err-text.ensures.taken.asked; read = c.in_err-text.ensures.taken.bytes; none = refl })))
 
 pub returns-in_err-file : goal.returns-in_err-file
 returns-in_err-file g c =

@@ -15,6 +15,6 @@ returns-in-Ok g c =
 
 pub returns-in-Err : goal.returns-in-Err
 returns-in-Err g c =
-    rw c.in_file.ensures (performs_untaken _ _ [] c.in-Err.refusal c.in-Err.ensures.taken _ c.args.which
+    rw c.in_file.ensures (performs_untaken _ _ [] c.in-Err.refusal 0 c.in-Err.ensures.taken _ c.args.which
     (explains_file _ _ c.args.which (λ held. g.C.FormulaCommand.right c.args.command.now) c.in-Err.refusal c.in-Err.ensures.refused)
-    (for_any _ _ (λ held. record { asked = c.in-Err.ensures.taken.asked; none = refl })))
+    (for_any _ _ (λ held. record { asked = c.in-Err.ensures.taken.asked; read = c.in-Err.ensures.taken.bytes; none = refl })))

@@ -1,5 +1,5 @@
 -- What is right for the second file, after the first, is right for both.
-use Rattle.dcv_cli.proofs.Common.{[], ◌∷◌, IsCompared, OnText, OnHeld, First, Second}
+use Rattle.dcv_cli.proofs.Common.{[], ◌∷◌, ◌+◌, most_bytes, IsCompared, OnText, OnHeld, First, Second}
 use Rattle.dcv_cli.proofs.Comparisons.{fulfils_both, leaves_both, leaves_first}
 use Rattle.dcv_cli.proofs.Outcomes.{explains_file}
 use Rattle.dcv_cli.proofs.ThreeEnds.{performs_untaken}
@@ -14,13 +14,13 @@ returns-in-Ok g c =
     performs_later taken _
     (λ outcome right. fulfils_both _ _ c.args.first.now c.args.second.now given.text c.args.limits file outcome taken.held given.there is.spelled _
     (λ other outcome each. each given.text file is) right)
-    c.over_formula.result (c.args.second.now ∷ []) _
-    (λ bytes left. leaves_both c.args.first.now c.args.second.now given.text c.args.limits file _ _ _ bytes taken.asked given.there is.spelled left)
+    c.over_formula.result (c.args.second.now ∷ []) (most_bytes + 2) _
+    (λ bytes left. leaves_both c.args.first.now c.args.second.now given.text c.args.limits file _ _ _ bytes taken.asked taken.held given.there is.spelled left)
     c.over_formula.ensures
 
 pub returns-in-Err : goal.returns-in-Err
 returns-in-Err g c =
     let taken = c.in-Err.ensures.taken in
-    rw c.in_file.ensures (performs_untaken _ _ (c.args.second.now ∷ []) c.in-Err.refusal taken _ First
+    rw c.in_file.ensures (performs_untaken _ _ (c.args.second.now ∷ []) c.in-Err.refusal (most_bytes + 2) taken _ First
     (explains_file _ _ First (λ held one. OnHeld (held 1) c.args.second.now (λ text. OnText text Second (IsCompared c.args.limits one))) c.in-Err.refusal c.in-Err.ensures.refused)
-    (leaves_first c.args.first.now c.args.second.now c.args.limits _ _ taken.asked))
+    (leaves_first c.args.first.now c.args.second.now c.args.limits _ _ taken.asked taken.bytes))

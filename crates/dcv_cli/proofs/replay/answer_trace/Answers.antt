@@ -13,11 +13,11 @@ returns-in_err-run g c observer rules follows =
     rw (p.1, p.2) (performs_stopped observer c.args.trace.now
     (outside g.F.Files g.O.Sink c.args.files.now c.args.out.now) (outside g.F.Files g.O.Sink c.run.new.files c.run.new.sink)
     verdicts.some verdicts.front texts.front texts.some rules c.in_err-run.field-0.0 (given.replayed observer [] follows)
-    (record { asked = given.asked; opened = given.open_faults; read = given.read_faults; faults = given.faults; held = given.held }))
+    (record { asked = given.asked; calls = given.calls; opened = given.open_faults; read = given.read_faults; faults = given.faults; held = given.held }))
 
 pub returns : goal.returns
 returns g c observer rules follows =
     let given = c.in_ok-run.ensures in
     performs_done observer c.args.trace.now
     (outside g.F.Files g.O.Sink c.args.files.now c.args.out.now) (outside g.F.Files g.O.Sink c.run.new.files c.run.new.sink) _ (given.replayed observer [] follows)
-    (record { asked = given.asked; opened = given.open_faults; read = given.read_faults; faults = given.faults; held = given.held })
+    (record { asked = given.asked; calls = given.calls; opened = given.open_faults; read = given.read_faults; faults = given.faults; held = given.held })

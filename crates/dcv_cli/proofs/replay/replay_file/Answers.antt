@@ -1,5 +1,6 @@
 -- What is right for the trace, after the observer, is right for both.
-use Rattle.dcv_cli.proofs.Common.{[], ◌∷◌, err_from_is_err_and}
+use Rattle.dcv_cli.proofs.Common.{[], ◌∷◌, ◌+◌, err_from_is_err_and}
+use Rattle.dcv_replay.specs.Coming.{most_reads}
 use Rattle.dcv_cli.proofs.Replays.{explains_replay, fulfils_replay, keeps_the_rules, leaves_before_trace, leaves_replay}
 use Rattle.dcv_cli.proofs.ThreeEnds.{performs_only}
 use Rattle.dcv_cli.proofs.TwoFiles.{performs_later}
@@ -10,9 +11,9 @@ returns-in_err-replay g c =
     let p = err_from_is_err_and c.from_residual.result c.from_residual.ensures.1 in
     let refusal = c.in_err-replay.field-0.0 in
     let taken = c.in_err-replay.ensures.taken in
-    rw (p.1, p.2) (performs_only _ _ (c.args.trace.now ∷ []) refusal taken _
+    rw (p.1, p.2) (performs_only _ _ (c.args.trace.now ∷ []) refusal (1 + most_reads) taken _
     (explains_replay c.args.subset _ c.args.observer.now c.args.trace.now refusal c.in_err-replay.ensures.refused)
-    (leaves_before_trace c.args.subset c.args.observer.now c.args.trace.now _ _ taken.asked))
+    (leaves_before_trace c.args.subset c.args.observer.now c.args.trace.now _ _ taken.asked taken.bytes))
 
 pub returns : goal.returns
 returns g c =
@@ -20,6 +21,6 @@ returns g c =
     let known = c.in_ok-replay.ensures.observer in
     performs_later taken _
     (fulfils_replay c.args.subset _ c.args.observer.now c.args.trace.now _ known.text known.is.observer taken.held known.there known.is.is)
-    c.answer_trace.result (c.args.trace.now ∷ []) _
-    (λ bytes left. leaves_replay c.args.subset c.args.observer.now c.args.trace.now known.text known.is.observer _ _ _ _ bytes taken.asked taken.held known.there known.is.is left)
+    c.answer_trace.result (c.args.trace.now ∷ []) (1 + most_reads) _
+    (λ bytes left. leaves_replay c.args.subset c.args.observer.now c.args.trace.now known.text known.is.observer _ _ _ _ _ bytes taken.asked taken.held known.there known.is.is left)
     (c.answer_trace.ensures known.is.observer (keeps_the_rules c.args.subset known.text known.is.observer known.is.is) known.is.follows)

@@ -8,4 +8,4 @@ returns g c files =
     let summary = c.in_ok-summary.summary in
     let right = for_any files.told (λ held. IsSwept c.args.seed c.args.count (record { status = Done; out = summary_text summary; err = [] }))
     (λ held. record { summary = summary; is = c.in_ok-summary.ensures; status = refl; says = refl; no_message = refl }) in
-    performs_none [] files (answers_reply _ _ _ Done (summary_text summary) right refl Done refl _ c.reply_with.ensures)
+    performs_none [] 0 files (answers_reply _ _ _ Done (summary_text summary) right refl Done refl _ c.reply_with.ensures)
