@@ -199,6 +199,8 @@ impl Machine for Atom<'_> {
     ghost merged = { λ atom leaves. after_letter atom.form
         (state_told (slice_index_or leaves 0 0) (slice_index_or leaves 1 0)) (slice_index_or leaves 2 0 == 1) (slice_index_or leaves 3 0 == 1) };
 
+    ghost extended = { λ atom state numbers. state };
+
     fn both_last(&self) -> bool {
         false
     }
@@ -232,7 +234,12 @@ impl Machine for Atom<'_> {
         Ok(rows::after(self.basic, from, leaves[2] == 1, shifted))
     }
 
-    fn copy(&self, _alloc: Global, of: &AtomMacro) -> Result<AtomMacro, AllocError> {
+    fn extend(
+        &self,
+        _alloc: Global,
+        of: &AtomMacro,
+        _numbers: &[u32],
+    ) -> Result<AtomMacro, AllocError> {
         Ok(*of)
     }
 

@@ -84,6 +84,8 @@ impl Machine for Ring {
     ghost merged = { λ ring numbers. ((if ring.doubles then slice_index_or numbers 0 0 * 2 else slice_index_or numbers 0 0)
         + slice_index_or numbers 1 0) % ring.size };
 
+    ghost extended = { λ ring state numbers. state };
+
     fn both_last(&self) -> bool {
         false
     }
@@ -111,7 +113,7 @@ impl Machine for Ring {
         Ok(around(before + u64::from(leaves[1]), self.size))
     }
 
-    fn copy(&self, _alloc: Global, of: &u32) -> Result<u32, AllocError> {
+    fn extend(&self, _alloc: Global, of: &u32, _numbers: &[u32]) -> Result<u32, AllocError> {
         Ok(*of)
     }
 

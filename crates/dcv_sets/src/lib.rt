@@ -4,6 +4,7 @@
 //! let set = StateSet::of(alloc, &[3, 1, 3])?; // 1 and 3
 //! push_rows(&operand, 0, set.as_slice(), &mut operands)?; // a row for each
 //! some_accepts(&operand, set.as_slice())
+//! let more = set.with(alloc, &[2])?; // 1, 2 and 3
 //! ```
 #![tactic(auto)]
 

@@ -1,5 +1,5 @@
 // A set of states as an ascending list, most of them short enough to need no allocation.
-ghost use Rattle.std.specs.Prelude.{◌≡◌, true, IfOk};
+ghost use Rattle.std.specs.Prelude.{◌≡◌, ◌++◌, [], ◌∷◌, true, IfOk, IfSome, OnOk};
 ghost use Rattle.std.specs.List.Sorted.{IsStrictlyIncreasing};
 ghost use Rattle.dcv_language.specs.StateSet.{set_of};
 
@@ -8,11 +8,14 @@ use std::alloc::{AllocError, Global};
 use std::hash::{Hash, Hasher};
 use std::marker::Model;
 
+// The states of a set, of which few lie in place.
+type States = SmallVec<u32, 8>;
+
 /// A set of states, in ascending order.
 #[derive(Drop)]
 pub struct StateSet {
     // the numbers of its states, in order
-    states: SmallVec<u32, 8>,
+    states: States,
 }
 
 impl Model for StateSet {
@@ -40,18 +43,72 @@ fn is_ascending(states: &[u32]) -> bool
     true
 }
 
+// The set of these states, as a list in ascending order.
+fn ascending(mut states: States) -> States
+    ensures { result.items ≡ set_of states.items }
+{
+    if is_ascending(&states) {
+        return states;
+    }
+    states.sort_unstable();
+    states.dedup();
+    states
+}
+
+// Adds a state at its place in an ascending list, where it is not there.
+fn add(states: &mut States, state: u32) -> Result<(), AllocError>
+    ensures { OnOk result (set_of states.new.items ≡ set_of (states.old.items ++ state ∷ [])) }
+{
+    match states.binary_search(&state) {
+        Ok(_) => Ok(()),
+        Err(place) => {
+            states.insert(place, state)?;
+            Ok(())
+        }
+    }
+}
+
+// Sets of so many states are made of smaller ones. Of fewer states the rows are merged as fast.
+const LARGE: usize = 16;
+
 impl StateSet {
     /// The set of these states, which may come in any order and repeat.
     pub fn of(alloc: Global, states: &[u32]) -> Result<StateSet, AllocError>
         ensures { IfOk result (λ set. set ≡ set_of states.now) }
     {
-        let mut sorted = SmallVec::from_slice(alloc, states)?;
-        if is_ascending(states) {
-            return Ok(StateSet { states: sorted });
+        let listed = SmallVec::from_slice(alloc, states)?;
+        Ok(StateSet {
+            states: ascending(listed),
+        })
+    }
+
+    /// The set of its states and these. It takes no more memory than both have, but where all lie in place.
+    pub fn with(&self, alloc: Global, more: &[u32]) -> Result<StateSet, AllocError>
+        ensures { IfOk result (λ set. set ≡ set_of (self.now ++ more.now)) }
+    {
+        let many = self.states.len().saturating_add(more.len());
+        let mut states = SmallVec::with_capacity(alloc, many)?;
+        states.extend_from_slice(&self.states)?;
+        for state in more {
+            add(&mut states, *state)?;
         }
-        sorted.sort_unstable();
-        sorted.dedup();
-        Ok(StateSet { states: sorted })
+        Ok(StateSet {
+            states: ascending(states),
+        })
+    }
+
+    /// The set without its last state, and that state, where it is a large one.
+    pub fn split_last(&self, alloc: Global) -> Result<Option<(StateSet, u32)>, AllocError>
+        ensures { IfOk result (λ parts. IfSome parts (λ parts. self.now ≡ parts.0 ++ parts.1 ∷ [])) }
+    {
+        if self.states.len() < LARGE {
+            return Ok(None);
+        }
+        let Some((last, others)) = self.states.split_last() else {
+            return Ok(None);
+        };
+        let states = SmallVec::from_slice(alloc, others)?;
+        Ok(Some((StateSet { states }, *last)))
     }
 
     /// The same set once more.

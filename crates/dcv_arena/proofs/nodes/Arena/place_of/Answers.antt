@@ -18,7 +18,7 @@ placed c =
     let count = ap (λ (arena : ArenaValue). length arena.nodes) c.self.view_is in
     let limit = ap (λ (arena : ArenaValue). arena.limit) c.self.view_is in
     let not_full : length c.args.self.now.nodes ≢ c.args.self.now.limit = iff_false c.is_full.ensures c.if-is_full.false in
-    let keys = subst (λ nodes. c.insert_full.new.self.keys ≡ insert_key node_eq.it nodes c.args.node) c.make_first_room.ensures c.in_ok-place.ensures.keys in
+    let keys = subst (λ nodes. c.insert_full.new.self.keys ≡ insert_key node_eq.it nodes c.args.node) c.make_room.ensures c.in_ok-place.ensures.keys in
     placed_by_insert old c.args.node c.insert_full.new.self.keys c.in_ok-place.place keys c.in_ok-place.ensures.stored
     (omega (arith, count, limit, c.self.invariant.within))
 
@@ -36,8 +36,8 @@ returns-in_err-place-clause-placed c =
     let limit = ap (λ (arena : ArenaValue). arena.limit) c.self.view_is in
     let not_full : length c.args.self.now.nodes ≢ c.args.self.now.limit = iff_false c.is_full.ensures c.if-is_full.false in
     let room : length old.nodes < old.limit = omega (arith, count, limit, c.self.invariant.within) in
-    let same : new ≡ old = λ i. record old { nodes = (c.in_err-place.ensures.err ∙ c.make_first_room.ensures) i } in
-    let absent = subst (λ nodes. list_any (node_eq.it c.args.node) nodes ≡ false) c.make_first_room.ensures c.in_err-place.ensures.absent in
+    let same : new ≡ old = λ i. record old { nodes = (c.in_err-place.ensures.err ∙ c.make_room.ensures) i } in
+    let absent = subst (λ nodes. list_any (node_eq.it c.args.node) nodes ≡ false) c.make_room.ensures c.in_err-place.ensures.absent in
     subst (λ arena. IsPlaced arena c.args.node new c.from_residual.result) c.self.view_is
     (placed_by_fault old new c.args.node c.from_residual.result c.from_residual.ensures.1 (absent_there old.nodes c.args.node absent) room same)
 
