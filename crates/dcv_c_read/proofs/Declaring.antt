@@ -2,22 +2,15 @@
 use Rattle.std.proofs.Common.{◌≡◌, ℕ, ◌+◌, Bool, true, false, not, ◌&&◌, ◌||◌, List, [], ◌∷◌, ◌++◌, length, refl, sym, ap, subst, ◌∙◌, arith, inl, inr}
 use Rattle.std.specs.Prelude.{bytes_eq}
 use Rattle.std.proofs.Math.Bool.{and-true, or-false, or_assoc}
-use Rattle.std.proofs.lemmas.Bool.{and_parts, and_right, or_from, or_left, or_right, or_cases, both_ways, false_from_ne_true}
+use Rattle.std.proofs.lemmas.Bool.{and_parts, and_right, or_from, or_left, or_cases, both_ways, false_from_ne_true}
 use Rattle.dcv_observer.specs.Conditions.{Names}
 use Rattle.dcv_observer.specs.Naming.{is_among}
 use Rattle.dcv_observer.proofs.Naming.{is_itself, differs, among_append_left, among_append_right, distinct_push}
 use Rattle.dcv_c.specs.Rules.{keeps_new}
-use Rattle.dcv_c_read.specs.Scope.{Row, Frame, with_function, with_names, IsRow, KnowsNames}
+use Rattle.dcv_c_read.specs.Scope.{Row, Frame, with_names, IsRow, KnowsNames}
 use Rattle.dcv_translation.proofs.Rows.{rows_push}
 
 -- ---- one more name in a list
-
-or_moved : (a b c : Bool) → ((a || b) || c) ≡ ((a || c) || b)
-or_moved true b c = refl
-or_moved false true true = refl
-or_moved false true false = refl
-or_moved false false true = refl
-or_moved false false false = refl
 
 among_push : (names : Names) (last name : List ℕ) → is_among (names ++ last ∷ []) name ≡ (is_among names name || bytes_eq name last)
 among_push [] last name = or-false (bytes_eq name last)
@@ -26,35 +19,10 @@ among_push (n ∷ names) last name = ap (λ (b : Bool). bytes_eq name n || b) (a
 -- ---- what the rules ask of it
 
 module _ (frame : Frame) (functions declared : Names) (rows : List Row) (knows : KnowsNames frame functions declared rows) (name : List ℕ) where
-  pub again_function : is_among functions name ≡ true → keeps_new frame.earlier name ≡ false
-  again_function among =
-      ap not (knows.all name ∙ or_left (is_among frame.functions name) (is_among frame.placed name) (subst (λ (names : Names). is_among names name ≡ true) knows.functions_are among))
-
-  pub again_placed : is_among declared name ≡ true → keeps_new frame.earlier name ≡ false
-  again_placed among =
-      ap not (knows.all name ∙ or_right (is_among frame.functions name) (is_among frame.placed name) (subst (λ (names : Names). is_among names name ≡ true) knows.declared_are among))
-
   pub is_new : is_among functions name ≡ false → is_among declared name ≡ false → keeps_new frame.earlier name ≡ true
   is_new no_function no_place =
       ap not (knows.all name ∙ or_from (is_among frame.functions name) (is_among frame.placed name) (subst (λ (names : Names). is_among names name ≡ false) knows.functions_are no_function)
       (subst (λ (names : Names). is_among names name ≡ false) knows.declared_are no_place))
-
-  -- a function has no place
-  pub function_declared : {more : Names} → more ≡ functions ++ name ∷ [] → KnowsNames (with_function name frame) more declared rows
-  function_declared pushed =
-      record {
-        functions_are = pushed ∙ ap (λ (names : Names). names ++ name ∷ []) knows.functions_are;
-        declared_are = knows.declared_are;
-        all = λ n.
-            among_push frame.earlier name n
-            ∙ ap (λ (b : Bool). b || bytes_eq n name) (knows.all n)
-            ∙ or_moved (is_among frame.functions n) (is_among frame.placed n) (bytes_eq n name)
-            ∙ ap (λ (b : Bool). b || is_among frame.placed n) (sym (among_push frame.functions name n));
-        distinct = knows.distinct;
-        lefts_among = knows.lefts_among;
-        known_among = knows.known_among;
-        are_rows = knows.are_rows;
-      }
 
   -- ---- a name with a place
 

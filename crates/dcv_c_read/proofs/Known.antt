@@ -1,12 +1,11 @@
 -- Names that are known from now on.
-use Rattle.std.proofs.Common.{◌≡◌, ℕ, Bool, true, false, not, ◌&&◌, ◌||◌, List}
+use Rattle.std.proofs.Common.{◌≡◌, ℕ, Bool, true, false, ◌||◌, List}
 use Rattle.std.proofs.Common.{◌∷◌, sym, ap, subst, ◌∙◌, inl, inr}
 use Rattle.std.specs.Prelude.{bytes_eq}
-use Rattle.std.proofs.lemmas.Bool.{and_right, or_left, or_cases, and_from, both_ways, false_from_ne_true}
+use Rattle.std.proofs.lemmas.Bool.{or_left, or_cases}
 use Rattle.dcv_observer.specs.Conditions.{Names}
 use Rattle.dcv_observer.specs.Naming.{is_among}
 use Rattle.dcv_observer.proofs.Naming.{is_itself, one_name}
-use Rattle.dcv_c.specs.Rules.{keeps_new}
 use Rattle.dcv_c_read.specs.Scope.{Row, Frame, with_known, as_known, IsRow, KnowsNames, IsNamed}
 use Rattle.dcv_translation.specs.Rows.{changed}
 use Rattle.dcv_translation.proofs.Rows.{change_rows, rows_as}
@@ -64,22 +63,3 @@ module _ (frame : Frame) (functions declared : Names) (rows : List Row) (knows :
             rows_as (IsRow frame.lefts frame.known) (IsRow frame.lefts other) 0 frame.placed rows
             (λ n name row among is. record { is_at = is.is_at; is_left = is.is_left; is_known = is.is_known ∙ same name }) knows.are_rows;
       }
-
--- ---- what the rules ask of a name, by its row
-
-module _ (frame : Frame) (functions declared : Names) (rows : List Row) (knows : KnowsNames frame functions declared rows) (name : List ℕ) where
-  pub no_left : is_among frame.placed name ≡ false → is_among frame.lefts name ≡ false
-  no_left none = false_from_ne_true (is_among frame.lefts name) (λ some. both_ways (is_among frame.placed name) none (knows.lefts_among name some))
-
-  pub not_known : is_among frame.placed name ≡ false → is_among frame.known name ≡ false
-  not_known none = false_from_ne_true (is_among frame.known name) (λ some. both_ways (is_among frame.placed name) none (knows.known_among name some))
-
-module _ (frame : Frame) (name : List ℕ) where
-  pub no_left_unset : is_among frame.lefts name ≡ false → (is_among frame.lefts name && keeps_new frame.known name) ≡ false
-  no_left_unset is = ap (λ (b : Bool). b && keeps_new frame.known name) is
-
-  pub known_unset : is_among frame.known name ≡ true → (is_among frame.lefts name && keeps_new frame.known name) ≡ false
-  known_unset is = and_right (is_among frame.lefts name) (keeps_new frame.known name) (ap not is)
-
-  pub unset : is_among frame.lefts name ≡ true → is_among frame.known name ≡ false → (is_among frame.lefts name && keeps_new frame.known name) ≡ true
-  unset left new = and_from (is_among frame.lefts name) (keeps_new frame.known name) left (ap not new)

@@ -31,10 +31,6 @@ added_twice : (are : Bool) (names texts more : Names) (name : List ℕ) → ((na
 added_twice true names texts more name joined = joined names
 added_twice false names texts more name joined = refl
 
-added_none : (are : Bool) (names : Names) → names ≡ added are [] names
-added_none true names = sym (append-nil names)
-added_none false names = refl
-
 -- ---- there are not too many
 
 -- a name keeps its rule if it is new and no parameter too many
@@ -52,27 +48,6 @@ module _ (are_left : Bool) (frame : Frame) (whole : Option ℕ) (others : List T
       let lefts = added_twice are_left frame.lefts texts more name joined in
       let known = added_twice (not are_left) frame.known texts more name joined in
       λ i. record { earlier = joined frame.earlier i; functions = frame.functions; placed = joined frame.placed i; lefts = lefts i; known = known i }
-
-  none_yet : frame ≡ with_names are_left [] frame
-  none_yet =
-      λ i.
-      record {
-        earlier = sym (append-nil frame.earlier) i;
-        functions = frame.functions;
-        placed = sym (append-nil frame.placed) i;
-        lefts = added_none are_left frame.lefts i;
-        known = added_none (not are_left) frame.known i;
-      }
-
-  pub declared_begin : {texts : Names} (scope : Scope) → texts ≡ [] → Knows frame scope
-      → IsLeft whole (map seen all ++ others) (keeps_names are_left frame.earlier 0 (bytes_of (map seen all)) ++ keeps) → AreDeclaredSoFar are_left frame whole others keeps all 0 texts all scope
-  declared_begin scope none knows left =
-      subst (λ (ts : Names). AreDeclaredSoFar are_left frame whole others keeps all 0 ts all scope) (sym none)
-      (record {
-        knows = subst (λ (f : Frame). Knows f scope) none_yet knows;
-        texts_are = refl;
-        left = subst (λ (names : Names). IsLeft whole (map seen all ++ others) (keeps_names are_left names 0 (bytes_of (map seen all)) ++ keeps)) (sym (append-nil frame.earlier)) left;
-      })
 
   module _ (place : ℕ) (texts : Names) (item : Item) (later : List Item) (scope : Scope) (sofar : AreDeclaredSoFar are_left frame whole others keeps all place texts (item ∷ later) scope) where
     first_left : IsLeft whole (seen item ∷ (map seen later ++ others)) ((keeps_new (frame.earlier ++ texts) (seen item).bytes && (are_left || nat_lt place 16))

@@ -4,13 +4,13 @@ use Rattle.std.proofs.Common.{◌∷◌, ◌++◌, map, Option, refl, sym, ap, s
 use Rattle.std.specs.Prelude.{bytes_eq}
 use Rattle.std.specs.List.{list_all}
 use Rattle.std.proofs.lemmas.List.{append-nil}
-use Rattle.std.proofs.lemmas.Bool.{or_left, or_right, and_from, both_ways, false_from_ne_true}
+use Rattle.std.proofs.lemmas.Bool.{or_left, or_right, both_ways, false_from_ne_true}
 use Rattle.dcv_lexer.specs.Cuts.{Token}
 use Rattle.dcv_observer.specs.Conditions.{Names}
 use Rattle.dcv_observer.specs.Naming.{is_among, AreDistinct}
 use Rattle.dcv_observer.proofs.Naming.{is_itself, among_append_left, among_append_right, among_append_cases, distinct_apart}
 use Rattle.dcv_lustre.specs.declared.node.Equation.{Equation as CodeEquation}
-use Rattle.dcv_lustre.specs.Tree.{OfTruth, Right, Delayed, Chosen, Tested, Equation, Node}
+use Rattle.dcv_lustre.specs.Tree.{Equation, Node}
 use Rattle.dcv_lustre.specs.Meaning.{ok, local_names, names_of}
 use Rattle.dcv_lustre.specs.Placed.{equation_of}
 use Rattle.dcv_lustre.specs.Seen.{seen_equation as equation_seen}
@@ -18,12 +18,12 @@ use Rattle.dcv_lustre.specs.Rules.{keeps_left, keeps_form, keeps_equation, keeps
 use Rattle.dcv_lustre_read.specs.declared.scope.Declaration.{Declaration}
 use Rattle.dcv_lustre_read.specs.declared.placed.PlacedEquation.{PlacedEquation}
 use Rattle.dcv_lustre_read.specs.Seen.{seen_equation}
-use Rattle.dcv_lustre_read.specs.Scope.{Row, seen_row, IsRow, Knows, KnowsAll, IsFoundAs, as_known, fits_form}
+use Rattle.dcv_lustre_read.specs.Scope.{Row, seen_row, IsRow, Knows, KnowsAll, IsFoundAs, as_known}
 use Rattle.dcv_observer.specs.Judged.{IsLeft}
 use Rattle.dcv_lustre_read.specs.Judged.{words_of_equations}
 use Rattle.dcv_translation.specs.Rows.{changed}
 use Rattle.dcv_translation.proofs.Rows.{all_rows, change_rows}
-use Rattle.dcv_lustre_read.proofs.NameKinds.{names_distinct, delayed_as, no_input}
+use Rattle.dcv_lustre_read.proofs.NameKinds.{names_distinct, no_input}
 use Rattle.dcv_observer.proofs.SoFar.{one_more}
 use Rattle.dcv_observer.proofs.Declaring.{or_turned}
 
@@ -36,24 +36,12 @@ lost_second : (a e f : Bool) → e ≡ true → ((a && not e) && f) ≡ false
 lost_second true e f is = ap (λ (b : Bool). not b && f) is
 lost_second false e f is = refl
 
-lost_third : (b f : Bool) → f ≡ false → (b && f) ≡ false
-lost_third true f is = is
-lost_third false f is = refl
-
-all_three : (a e f : Bool) → a ≡ true → e ≡ false → f ≡ true → ((a && not e) && f) ≡ true
-all_three a e f first second third = and_from (a && not e) f (and_from a (not e) first (ap not second)) third
-
 module _ (node : Node) (earlier names : Names) (rows : List Row) (knows : Knows node earlier names rows) (equation : Equation) where
   distinct : AreDistinct (names_of node)
   distinct = names_distinct node earlier names rows knows
 
   no_left : is_among (ok ∷ local_names node) equation.left ≡ false → keeps_left node earlier equation ≡ false
   no_left none = lost_first (is_among (ok ∷ local_names node) equation.left) (is_among earlier equation.left) (keeps_form node equation.left equation.right) none
-
-  pub unknown_left : is_among (names_of node) equation.left ≡ false → keeps_left node earlier equation ≡ false
-  unknown_left none =
-      no_left (false_from_ne_true (is_among (ok ∷ local_names node) equation.left) (λ some.
-      both_ways (is_among (names_of node) equation.left) none (among_append_right node.inputs (ok ∷ local_names node) equation.left some)))
 
   module _ (row : Row) (found : IsFoundAs node earlier equation.left row) where
     pub known_left : row.is_known ≡ true → keeps_left node earlier equation ≡ false
@@ -64,26 +52,6 @@ module _ (node : Node) (earlier names : Names) (rows : List Row) (knows : Knows 
               both_ways (is_among node.inputs equation.left) (distinct_apart node.inputs (ok ∷ local_names node) distinct equation.left some) input))
           | inr before ↦ lost_second (is_among (ok ∷ local_names node) equation.left) (is_among earlier equation.left) (keeps_form node equation.left equation.right) before
         ]
-
-    form_is : (right : Right) → keeps_form node equation.left right ≡ fits_form row.kind right
-    form_is (Delayed first source) = refl
-    form_is (Chosen arms otherwise) = refl
-    form_is (Tested tests) = delayed_as node earlier names rows knows equation.left OfTruth row found
-
-    pub unfit_left : fits_form row.kind equation.right ≡ false → keeps_left node earlier equation ≡ false
-    unfit_left unfit = lost_third (is_among (ok ∷ local_names node) equation.left && not (is_among earlier equation.left)) _ (form_is equation.right ∙ unfit)
-
-    pub kept_left : row.is_known ≡ false → fits_form row.kind equation.right ≡ true → keeps_left node earlier equation ≡ true
-    kept_left new fits =
-        let unknown : is_among (node.inputs ++ earlier) equation.left ≡ false = sym found.is_known ∙ new in
-        all_three (is_among (ok ∷ local_names node) equation.left) (is_among earlier equation.left) (keeps_form node equation.left equation.right)
-        (elim (among_append_cases node.inputs (ok ∷ local_names node) equation.left found.among) [
-          | inl input ↦ absurd (both_ways (is_among (node.inputs ++ earlier) equation.left) unknown (among_append_left node.inputs earlier equation.left input))
-          | inr later ↦ later
-        ])
-        (false_from_ne_true (is_among earlier equation.left) (λ before.
-        both_ways (is_among (node.inputs ++ earlier) equation.left) unknown (among_append_right node.inputs earlier equation.left before)))
-        (form_is equation.right ∙ fits)
 
 -- ---- a name that is known from now on
 

@@ -1,11 +1,10 @@
 -- What trees stand for, by the parts of the code.
-use Rattle.std.proofs.Common.{◌≡◌, ℕ, ◌≤◌, List, [], ◌∷◌, refl, sym, ap, ◌∙◌, subst}
+use Rattle.std.proofs.Common.{◌≡◌, ℕ, List, [], ◌∷◌, refl, sym, ap, ◌∙◌, subst}
 use Rattle.std.specs.Prelude.{Box}
 use Rattle.std.specs.declared.alloc.Global.{Global}
-use Rattle.std.proofs.lemmas.List.{get_or_past}
 use Rattle.dcv_observer.specs.Scheme.{IsOfBody, StandsFor}
 use Rattle.dcv_lustre.specs.Placed.{PlacedNode}
-use Rattle.dcv_lustre.specs.Actions.{Part, ANode, Nothing, action, actions, scheme, Spells}
+use Rattle.dcv_lustre.specs.Actions.{Part, ANode, Nothing, action, scheme, Spells}
 use Rattle.dcv_lustre.proofs.EachTree.{rule_stands, tree_stands}
 use Rattle.dcv_lustre_read.specs.declared.placed.PlacedNode.{PlacedNode as CodeNode}
 use Rattle.dcv_lustre_read.specs.declared.parts.Part.{Part as CodePart}
@@ -30,10 +29,6 @@ node_spelled text part stands =
     let same : part ∷ [] ≡ ANode placed ∷ [] = sym stands.stands ∙ is in
     let one : part ≡ ANode placed = cc in
     (placed, one, subst (StandsFor scheme text) one stands)
-
--- there are no other rules
-pub no_rule : (rule : ℕ) (parts : List Part) → 20 ≤ rule → IsMeant (action rule parts) → ⊥
-no_rule rule parts there is = subst IsMeant (ap (λ act. act parts) (get_or_past actions rule (λ parts. Nothing) there)) is
 
 no_node : (words : Words) (placed : PlacedNode) → seen_words words ≡ ANode placed → ⊥
 no_node (Token item) placed is = cc

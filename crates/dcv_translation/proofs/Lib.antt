@@ -2,4 +2,3 @@ pub mod Running
 pub mod Within
 pub mod Reversed
 pub mod Rows
-pub mod Told

@@ -1,6 +1,3 @@
-use Rattle.std.proofs.Common.{◌≡◌, ◌∙◌, sym, ap, subst}
-use Rattle.dcv_c.specs.Actions.{AUnit, Spells}
-use Rattle.dcv_c_read.specs.Seen.{seen_unit}
 use Rattle.dcv_c_read.specs.Symbols.{seen_part}
 use Rattle.dcv_c_read.proofs.Translated.{unit_spelled, unit_in}
 use Rattle.dcv_c_read.proofs.reading.placed_unit.Goals as goal
@@ -9,10 +6,3 @@ pub unreachable-requires : goal.unreachable-requires
 unreachable-requires c =
     let (placed, is, spelled) = unit_spelled c.args.text.now (seen_part c.in_ok-placed.field-0) c.in_ok-placed.ensures.part in
     unit_in c.in_ok-placed.field-0 placed is c.in_default.not-Unit
-
-pub returns-clause-spelled : goal.returns-clause-spelled
-returns-clause-spelled c =
-    let (placed, is, spelled) = unit_spelled c.args.text.now (seen_part c.in_ok-placed.field-0) c.in_ok-placed.ensures.part in
-    let both : AUnit (seen_unit c.in-Unit.placed.value) ≡ AUnit placed = sym (ap seen_part c.in-Unit.is) ∙ is in
-    let same : seen_unit c.in-Unit.placed.value ≡ placed = cc in
-    subst (Spells c.args.text.now) (sym same) spelled

@@ -1,14 +1,8 @@
-use Rattle.std.proofs.Common.{sym, ap, subst, ◌∙◌}
+use Rattle.std.proofs.Common.{sym, ap, ◌∙◌}
 use Rattle.dcv_c.specs.Placed.{unit_of}
-use Rattle.dcv_c.specs.Actions.{Spells}
 use Rattle.dcv_c_read.specs.declared.placed.PlacedUnit.{PlacedUnit}
 use Rattle.dcv_c_read.specs.Seen.{seen_unit}
 use Rattle.dcv_c_read.proofs.reading.read.Goals as goal
-
-pub named-read-requires : goal.named-read-requires
-named-read-requires c = record {
-  spelled = (c.args.bytes.now, subst (λ (placed : PlacedUnit). Spells c.args.bytes.now (seen_unit placed)) (sym c.deref.ensures) c.in_ok-placed.ensures.spelled);
-}
 
 pub returns-clause-read : goal.returns-clause-read
 returns-clause-read c = record {

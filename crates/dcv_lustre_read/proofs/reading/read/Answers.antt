@@ -1,14 +1,8 @@
-use Rattle.std.proofs.Common.{sym, ap, subst, ◌∙◌}
+use Rattle.std.proofs.Common.{sym, ap, ◌∙◌}
 use Rattle.dcv_lustre.specs.Placed.{node_of}
-use Rattle.dcv_lustre.specs.Actions.{Spells}
 use Rattle.dcv_lustre_read.specs.declared.placed.PlacedNode.{PlacedNode}
 use Rattle.dcv_lustre_read.specs.Seen.{seen_node}
 use Rattle.dcv_lustre_read.proofs.reading.read.Goals as goal
-
-pub named-read-requires : goal.named-read-requires
-named-read-requires c = record {
-  spelled = (c.args.bytes.now, subst (λ (placed : PlacedNode). Spells c.args.bytes.now (seen_node placed)) (sym c.deref.ensures) c.in_ok-placed.ensures.spelled);
-}
 
 pub returns-clause-read : goal.returns-clause-read
 returns-clause-read c = record {

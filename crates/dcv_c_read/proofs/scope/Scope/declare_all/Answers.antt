@@ -5,12 +5,8 @@ use Rattle.dcv_lexer.specs.Cuts.{Token}
 use Rattle.dcv_observer.specs.declared.items.Item.{Item}
 use Rattle.dcv_c_read.specs.Scope.{Frame}
 use Rattle.dcv_observer.proofs.Judging.{leads_on, fault_is}
-use Rattle.dcv_c_read.proofs.Lists.{AreDeclaredSoFar, declared_begin, declared_beyond, declared_left, declared_more, declared_end}
+use Rattle.dcv_c_read.proofs.Lists.{AreDeclaredSoFar, declared_beyond, declared_left, declared_more, declared_end}
 use Rattle.dcv_c_read.proofs.scope.Scope.declare_all.Goals as goal
-
-pub loop-place-init : goal.loop-place-init
-loop-place-init c = λ (frame : Frame) knows (whole : Option ℕ) (others : List Token) (keeps : List Bool) left.
-    declared_begin c.args.are_left frame whole others keeps c.args.words.now c.args.self.now c.new-texts.ensures.items knows left
 
 pub returns-then-is_beyond : goal.returns-then-is_beyond
 returns-then-is_beyond c = λ (frame : Frame) knows (whole : Option ℕ) (others : List Token) (keeps : List Bool) left.

@@ -10,10 +10,6 @@ use Rattle.dcv_lustre_read.proofs.Declared.{node_at, whole_at, at_equations, at_
 use Rattle.dcv_lustre_read.proofs.scope.Scope.node.Goals as goal
 use Rattle.dcv_lustre_read.proofs.scope.Scope.node.Goals.{After-has_all_equations}
 
-pub returns-in_err-declared : goal.returns-in_err-declared
-returns-in_err-declared c =
-    leads_on (whole_at c.args.placed.now) _ c.from_residual-in_err-declared.result c.in_err-declared.field-0.0 c.from_residual-in_err-declared.ensures.1 c.in_err-declared.ensures
-
 pub returns-in_err-equations : goal.returns-in_err-equations
 returns-in_err-equations c =
     let placed = c.args.placed.now in
