@@ -1,6 +1,6 @@
 -- Words in which no fault is found are a command's name and words of the command, and these ask for something.
 use Rattle.dcv_command.proofs.Common.{◌≡◌, App, ℕ, suc, Bool, true, false, List, [], ◌∷◌, Option, None, Some, refl, sym, subst, codes, ap, ◌∙◌}
-use Rattle.dcv_command.proofs.Common.{find, map, length, ◌||◌, ◌&&◌, if◌then◌else◌, option_and_then, option_map, bytes_eq, ◌==◌, AllByRecursion, list_all, true≢false, both, arith}
+use Rattle.dcv_command.proofs.Common.{find, is_some, map, length, ◌||◌, ◌&&◌, if◌then◌else◌, option_and_then, option_map, bytes_eq, ◌==◌, AllByRecursion, list_all, true≢false, both, arith}
 use Rattle.dcv_command.proofs.Common.{bytes_eq-Decides, Text, Row, Rule, Held, idle, fault_of, takes, accepts, has_row, is_false}
 use Rattle.dcv_command.proofs.Common.{short_of, long_of, finished, settled, nothing_held, walk, walk_from, rows_after, subcommand_met}
 use Rattle.dcv_command.proofs.Common.{after_flag, long_or_other, subcommand_or_other, trailing, check_fault, level_fault, settle_fault, step_passes, other_passes, turn_passes}
@@ -221,10 +221,6 @@ taken_words_are_a_commands words = ((taken_passes words, λ passes. no_kind (fau
     from : AreACommands words → IsTaken words
     from are = ap (fault_of program) are.begin ∙ fault_alone are.command (is_among are.command are.among) are.rest ∙ are.taken
 
-it_is_some : (asked : Option Request) → IsSome asked → None ≡ asked → ⊥
-it_is_some None some none = true≢false (sym some)
-it_is_some (Some request) some none = let wrong : None ≡ Some request = none in cc
-
 -- matches of taken words ask for something
 pub matches_ask : (words : List Text) (found : Option (Text × List Row)) → IsTaken words → found ≡ subcommand_of program words → None ≡ request_of_subcommand found → ⊥
-matches_ask words found taken same none = it_is_some (request_of words) (taken_words_ask words taken) (none ∙ ap request_of_subcommand same)
+matches_ask words found taken same none = true≢false (sym (taken_words_ask words taken) ∙ ap is_some (sym (none ∙ ap request_of_subcommand same)))
