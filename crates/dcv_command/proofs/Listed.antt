@@ -17,7 +17,7 @@ use Rattle.clap.specs.declared.parser.matches.ValueSource.TheVariants.{CommandLi
 use Rattle.clap.proofs.WalkLemmas.{find-map}
 use Rattle.dcv_command.specs.Laws.{ListedWordsAreTaken}
 use Rattle.dcv_command.specs.Listed.{AreGiven, AskFor, CanBeGiven, IsChosen, Values, are_distinct, asked_with, if_operand, operand_words, option_words, word_of}
-use Rattle.dcv_command.proofs.Arguments.{AreLookedUp, IsLookedUp, Numbered, all_looked_up, built_rule, built_rules, built_shape, help, is_operand, is_required, is_small, next_place, numbered, of_numbered, operands, parser, to_numbered}
+use Rattle.dcv_command.proofs.Arguments.{AreLookedUp, IfOperand, IsLookedUp, Numbered, built_rule, built_rules, built_shape, help, is_operand, is_required, is_small, next_place, numbered, of_numbered, operands, parser, to_numbered}
 use Rattle.dcv_command.proofs.Commands.{IsCommand, is_among}
 use Rattle.dcv_command.proofs.Lists.{all_both, any_is_found, if_found, none_passes}
 use Rattle.dcv_command.proofs.NumberTexts.{HasNoDash, decimal_is_one, has_no_dash}
@@ -145,7 +145,7 @@ operand_is : (form : Form) → is_operand form ≡ true → IsOperand form
 operand_is Operand is option = option
 operand_is _ is option = true≢false (sym is)
 
-required_named : (form : Form) (value : Value) (given : Of value) (operand named : Bool) → (not (is_operand form) || operand) ≡ true
+required_named : (form : Form) (value : Value) (given : Of value) (operand named : Bool) → IfOperand form (operand ≡ true)
     → IsChosen form value given named → is_required form ≡ true → (operand || named) ≡ true
 required_named Operand value given operand named there is required = or_left operand named there
 required_named Required value given operand named there is required = or_right operand named is.0
@@ -178,7 +178,7 @@ module _ (command : Command) (is : IsCommand command) (values : Values) (given :
   every = all command.name arguments given values
 
   looked_up : AreLookedUp arguments
-  looked_up = all_looked_up arguments is.sound
+  looked_up = is.looked_up
 
   abbrev IsKnown : Numbered → Type 0
   IsKnown at = IsLookedUp arguments at × IsChosen at.1.form at.1.value (values at.1) (has_name at.1.id given)
@@ -240,7 +240,7 @@ module _ (command : Command) (is : IsCommand command) (values : Values) (given :
       (All-weaker IsOperandItem (λ one. has_name one.id given ≡ false) unnamed (operands arguments) operand_items))
       arguments [] 1 refl nothing_held (nothing_holds arguments values)
       (All-weaker IsKnown (λ at. IsOperand at.1.form → IsItem arguments values at) operand_item (numbered arguments 1) known)
-      (omega (arith, looked_up.few)) options
+      (omega (arith, ltb-true (length arguments) 1000 looked_up.few)) options
 
   -- ---- after the words
 

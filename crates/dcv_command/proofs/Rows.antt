@@ -13,8 +13,8 @@ use Rattle.clap.specs.declared.builder.value_parser.Reading.{Reading}
 use Rattle.clap.specs.declared.builder.value_parser.Reading.TheVariants.{AsWritten}
 use Rattle.clap.specs.declared.parser.matches.ValueSource.{ValueSource}
 use Rattle.clap.specs.declared.parser.matches.ValueSource.TheVariants.{CommandLine, DefaultValue}
-use Rattle.dcv_command.proofs.Arguments.{AreLookedUp, IsLookedUp, Numbered, built_rule, built_rules, defaults_of, is_required, numbered, parser}
-use Rattle.dcv_command.proofs.Lists.{any_is_found, are_apart, each_fails, if_found, none_found}
+use Rattle.dcv_command.proofs.Arguments.{are_apart, AreLookedUp, IsLookedUp, Numbered, built_rule, built_rules, defaults_of, is_required, numbered, parser}
+use Rattle.dcv_command.proofs.Lists.{any_is_found, each_fails, if_found, none_found}
 
 -- the row of an argument that had none
 abbrev pub new_row : Text → Reading → ValueSource → List Text → Row
@@ -87,15 +87,15 @@ abbrev pub default_of : Option Rule → Option Row
 default_of found = option_and_then (λ rule. default_row rule rule.defaults) found
 
 -- what an argument has at the end
-pub found_after : (rules : List Rule) (rows : List Row) (id : Text) → are_apart (λ (rule other : Rule). bytes_eq rule.id other.id) (λ rule. rule) rules ≡ true
+pub found_after : (rules : List Rule) (rows : List Row) (id : Text) → are_apart rules ≡ true
     → row_named id (fold with_default rows rules) ≡ option_or (row_named id rows) (default_of (arg_by_id rules id))
 found_after [] rows id apart = sym (or_none (row_named id rows))
 found_after (rule ∷ rules) rows id apart =
     found_after rules (with_default rows rule) id parts.1 ∙ ap (λ found. option_or found (default_of (arg_by_id rules id))) (after_default rule rows id)
     ∙ by (bytes_eq rule.id id) refl
   where
-    parts : (list_all (λ other. not (bytes_eq other.id rule.id)) rules ≡ true) × (are_apart (λ (rule other : Rule). bytes_eq rule.id other.id) (λ rule. rule) rules ≡ true)
-    parts = both (list_all (λ (other : Rule). not (bytes_eq other.id rule.id)) rules) _ apart
+    parts : (list_all (λ (other : Rule). not (bytes_eq other.id rule.id)) rules ≡ true) × (are_apart rules ≡ true)
+    parts = both (list_all (λ (other : Rule). not (bytes_eq other.id rule.id)) rules) (are_apart rules) apart
 
     by : (same : Bool) → bytes_eq rule.id id ≡ same
         → option_or (if same then option_or (row_named id rows) (default_row rule rule.defaults) else row_named id rows) (default_of (arg_by_id rules id))

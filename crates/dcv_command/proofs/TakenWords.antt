@@ -6,7 +6,7 @@ use Rattle.dcv_command.proofs.Common.{short_of, long_of, finished, settled, noth
 use Rattle.dcv_command.proofs.Common.{after_flag, long_or_other, subcommand_or_other, trailing, check_fault, level_fault, settle_fault, step_passes, other_passes, turn_passes}
 use Rattle.dcv_command.proofs.Common.{program, request_of_subcommand, asked_in, asked_of, value_of, Command, commands, Argument, Asks, Form, WithDefault, Value}
 use Rattle.std.proofs.Common.{zero}
-use Rattle.std.specs.Prelude.{IfSome, IsSome, nat_le, slice_get, not}
+use Rattle.std.specs.Prelude.{Contains, IfSome, IsSome, nat_le, slice_get, not}
 use Rattle.std.specs.Option.{option_or}
 use Rattle.std.specs.Str.{chars}
 use Rattle.std.proofs.ByRecursion.{All-append, All-map, All-push, All-weaker}
@@ -21,10 +21,10 @@ use Rattle.clap.specs.Takes.{entered_passes, flag_word_passes, flags_pass, long_
 use Rattle.clap.specs.declared.parser.matches.ValueSource.TheVariants.{CommandLine}
 use Rattle.clap.proofs.OnLiterals.{clap_on_literals}
 use Rattle.clap.proofs.WalkLemmas.{find-map}
-use Rattle.dcv_command.specs.Request.{IsTaken, Request, request_of}
+use Rattle.dcv_command.specs.Request.{IsTaken, request_of}
 use Rattle.dcv_command.specs.Laws.{AreACommands, TakenWordsAreACommands, TakenWordsAsk}
-use Rattle.dcv_command.proofs.Arguments.{AreLookedUp, IsLookedUp, Numbered, all_looked_up, built_rule, built_rules, built_shape, defaults_of, help, numbered, of_numbered, parser}
-use Rattle.dcv_command.proofs.Commands.{IsCommand, asked_below, built_command, each_command, fault_alone, faults_below, found_below, is_among, names, top}
+use Rattle.dcv_command.proofs.Arguments.{AreLookedUp, IsLookedUp, Numbered, built_rule, built_rules, built_shape, defaults_of, help, numbered, of_numbered, parser}
+use Rattle.dcv_command.proofs.Commands.{IsCommand, asked_below, built_command, each_among, fault_alone, faults_below, found_below, is_among, names, top}
 use Rattle.dcv_command.proofs.Lists.{if_found}
 use Rattle.dcv_command.proofs.Parses.{Keeps, is_none, no_kind, last_is_empty, level_keeps, program_agrees, use_same}
 use Rattle.dcv_command.proofs.Rows.{IsRead, IsReadable, OfDefault, is_read, readable, used_behind}
@@ -83,6 +83,7 @@ dashes_refused (next ∷ rest) taken = true≢false (sym (walk_taken (codes "--"
 
 pub record Begins (words : List Text) : Type 0 where
   pub command : Command
+  pub among : Contains commands command
   pub is : IsCommand command
   pub rest : List Text
   pub same : words ≡ command.name ∷ rest
@@ -116,11 +117,11 @@ module _ (word : Text) (rest : List Text) (taken : takes program (word ∷ rest)
       true≢false (sym passes ∙ ap (first_passes word None) is ∙ word_refused word (long_of word) (short_of word) refl)
 
   begins_with : Begins (word ∷ rest)
-  begins_with = by (find is_named commands) refl (if_found IsCommand is_named commands each_command)
+  begins_with = by (find is_named commands) refl (if_found (Contains commands) is_named commands each_among)
     where
-      by : (found : Option Command) → find is_named commands ≡ found → IfSome found (λ command. IsCommand command × (is_named command ≡ true)) → Begins (word ∷ rest)
+      by : (found : Option Command) → find is_named commands ≡ found → IfSome found (λ command. Contains commands command × (is_named command ≡ true)) → Begins (word ∷ rest)
       by (Some command) is named =
-          record { command = command; is = named.0; rest = rest; same = ap (λ word. word ∷ rest) (sym ((bytes_eq-Decides command.name word).0 (sym (or-false _) ∙ named.1))) }
+          record { command = command; among = named.0; is = is_among command named.0; rest = rest; same = ap (λ word. word ∷ rest) (sym ((bytes_eq-Decides command.name word).0 (sym (or-false _) ∙ named.1))) }
       by None is named = absurd (no_other _ _ is refl refl)
 
 pub begins : (words : List Text) → takes program words ≡ true → Begins words
@@ -199,7 +200,7 @@ taken_words_ask words taken =
     subst (λ words. IsSome (request_of words)) (sym begun.same)
     (subst IsSome (sym (ap request_of_subcommand (found_below begun.command begun.is begun.rest)
     ∙ asked_below begun.command begun.is begun.rest (rows_after (built_command begun.command).rules [] begun.rest)))
-    (words_ask begun.command.arguments (all_looked_up begun.command.arguments begun.is.sound) begun.command.name begun.command.asks begun.rest
+    (words_ask begun.command.arguments begun.is.looked_up begun.command.name begun.command.asks begun.rest
     (sym (faults_below begun.command begun.is begun.rest) ∙ ap (fault_of program) (sym begun.same) ∙ taken)))
 
 pub taken_words_are_a_commands : TakenWordsAreACommands
@@ -210,7 +211,7 @@ taken_words_are_a_commands words = ((taken_passes words, λ passes. no_kind (fau
         let begun = begins words (taken_passes words taken) in
         record {
           command = begun.command;
-          among = begun.is.among;
+          among = begun.among;
           rest = begun.rest;
           begin = begun.same;
           taken = sym (fault_alone begun.command begun.is begun.rest) ∙ ap (fault_of program) (sym begun.same) ∙ taken;

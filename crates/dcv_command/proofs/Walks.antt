@@ -21,7 +21,7 @@ use Rattle.dcv_command.specs.Request.{Request}
 use Rattle.dcv_command.proofs.Commands.{IsCommand, asked_below, built_command, faults_below, found_below}
 use Rattle.dcv_command.proofs.NumberTexts.{HasNoDash}
 use Rattle.dcv_command.proofs.TakenWords.{taken_passes}
-use Rattle.dcv_command.proofs.Arguments.{IsLookedUp, Numbered, built_rule, built_rules, built_shape, flag, parser}
+use Rattle.dcv_command.proofs.Arguments.{IsLookedUp, Numbered, built_rule, built_rules, built_shape, flag, of_operand, of_option, parser}
 use Rattle.dcv_command.proofs.Rows.{given_row, used_behind}
 
 -- a walk that is not stopped, and reads flags
@@ -159,9 +159,9 @@ module _ (arguments : List Argument) (values : Values) (held : Held) (done : Lis
     operand_goes operand few =
         let several = and-false (is_pending (built_rule at) held.pending) in
         plain_goes shape held idle at.0 text (going (holding rows at.1.id text) idle (at.0 + 1)) no_dash
-        (ap (λ found. option_map_or (λ rule. positional_fault rules false rule held) found (stray_fault shape)) (is.by_index operand)
+        (ap (λ found. option_map_or (λ rule. positional_fault rules false rule held) found (stray_fault shape)) (of_operand _ at.1.form operand is.by_index)
         ∙ ap (λ several. if several then [] else settle_fault rules false held) several ∙ before.no_fault)
-        (ap (λ found. to_positional rules found text (going held idle at.0) held) (is.by_index operand)
+        (ap (λ found. to_positional rules found text (going held idle at.0) held) (of_operand _ at.1.form operand is.by_index)
         ∙ ap (λ several. going (pushed at.1.id text (if several then held else settled rules held)) idle (min (at.0 + 1) usize_max)) several
         ∙ ap (λ there. going (pushed at.1.id text there) idle (min (at.0 + 1) usize_max)) before.settles
         ∙ ap (going (holding rows at.1.id text) idle) (min-eq_left (omega arith)))
@@ -179,10 +179,10 @@ module _ (arguments : List Argument) (values : Values) (held : Held) (done : Lis
         record {
           no_fault = ap₂ (λ dashes long. or_else (if dashes then [] else flag_word_fault rules false long (flag at.1.id) held)
               (step_fault shape place (flag_met place dashes long).0 (flag_met place dashes long).1)) is.no_dashes is.is_flag
-              ∙ ap (λ found. or_else (long_fault rules false found None held) (step_fault shape place (named_met found).0 (named_met found).1)) (is.by_long is_option)
+              ∙ ap (λ found. or_else (long_fault rules false found None held) (step_fault shape place (named_met found).0 (named_met found).1)) (of_option _ at.1.form is_option is.by_long)
               ∙ ap (λ kinds. or_else kinds []) before.no_fault;
           goes = ap₂ (λ dashes long. after_step rules (flag at.1.id) (going held idle place) (flag_met place dashes long).0 (flag_met place dashes long).1) is.no_dashes is.is_flag
-              ∙ ap (λ found. after_step rules (flag at.1.id) (going held idle place) (named_met found).0 (named_met found).1) (is.by_long is_option)
+              ∙ ap (λ found. after_step rules (flag at.1.id) (going held idle place) (named_met found).0 (named_met found).1) (of_option _ at.1.form is_option is.by_long)
               ∙ ap (λ there. going (record there { pending = Some (at.1.id, []) }) (option at.1.id) place) before.settles;
         }
 
