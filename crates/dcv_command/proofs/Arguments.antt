@@ -1,8 +1,7 @@
 -- The arguments of a command as `clap` builds them, and which of them it finds by a name or a place.
-use Rattle.dcv_command.proofs.Common.{◌≡◌, Bool, true, false, ℕ, List, [], ◌∷◌, ◌++◌, Option, None, Some}
-use Rattle.dcv_command.proofs.Common.{length, codes, find, map, not, ◌&&◌, ◌+◌, AllByRecursion, list_all, bytes_eq}
-use Rattle.dcv_command.proofs.Common.{Rule, Shape, Text, long_of, arg_by_index, Unsigned}
-use Rattle.dcv_command.proofs.Common.{IsOption, has_name, Argument, Form, Operand, WithDefault, Value, FileName, Number, default_passes}
+use Rattle.dcv_command.proofs.Common.{◌≡◌, Bool, true, false, ℕ, List, [], ◌∷◌, ◌++◌, Option, None, Some, length, codes, find, map, not, ◌&&◌, ◌+◌}
+use Rattle.dcv_command.proofs.Common.{AllByRecursion, list_all, bytes_eq, Rule, Shape, Text, long_of, arg_by_index, Unsigned, IsOption, has_name}
+use Rattle.dcv_command.proofs.Common.{Argument, Form, Operand, WithDefault, Value, FileName, Number, default_passes}
 use Rattle.std.specs.Prelude.{filter, ltb}
 use Rattle.clap.specs.Words.{new_rule}
 use Rattle.clap.specs.Simple.{filled, help_rule, new_shape, with_index}
@@ -66,11 +65,13 @@ abbrev pub numbered : List Argument → ℕ → List Numbered
 numbered [] place = []
 numbered (one ∷ rest) place = (place, one) ∷ numbered rest (next_place one.form place)
 
-pub of_numbered : (P : Argument → Type 0) (arguments : List Argument) (place : ℕ) → AllByRecursion (λ at. P at.1) (numbered arguments place) → AllByRecursion P arguments
+pub of_numbered : (P : Argument → Type 0) (arguments : List Argument) (place : ℕ) → AllByRecursion (λ at. P at.1) (numbered arguments place)
+    → AllByRecursion P arguments
 of_numbered P [] place all = tt
 of_numbered P (one ∷ rest) place (first, others) = (first, of_numbered P rest (next_place one.form place) others)
 
-pub to_numbered : (P : Argument → Type 0) (arguments : List Argument) (place : ℕ) → AllByRecursion P arguments → AllByRecursion (λ at. P at.1) (numbered arguments place)
+pub to_numbered : (P : Argument → Type 0) (arguments : List Argument) (place : ℕ) → AllByRecursion P arguments
+    → AllByRecursion (λ at. P at.1) (numbered arguments place)
 to_numbered P [] place all = tt
 to_numbered P (one ∷ rest) place (first, others) = (first, to_numbered P rest (next_place one.form place) others)
 

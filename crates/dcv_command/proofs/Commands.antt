@@ -1,9 +1,8 @@
 -- Words that begin with a command's name: what `clap` finds in them is what it finds in the words after the name.
-use Rattle.dcv_command.proofs.Common.{◌≡◌, refl, ap, ◌∙◌, sym, subst, App, List, [], ◌∷◌, Option, Some, is_some, find, fold, false}
-use Rattle.dcv_command.proofs.Common.{option_map, option_map_or, AllByRecursion, bytes_eq}
-use Rattle.dcv_command.proofs.Common.{Kinds, Row, Shape, Text, fault_of, or_else, Names, Walk, finished, nothing_held, rows_after}
-use Rattle.dcv_command.proofs.Common.{settled, walk, walk_from, check_fault, level_fault, settle_fault}
-use Rattle.dcv_command.proofs.Common.{turn_fault, program, Command, commands, asked_of, request_in}
+use Rattle.dcv_command.proofs.Common.{◌≡◌, refl, ap, ◌∙◌, sym, subst, App, List, [], ◌∷◌, Option, Some, is_some, find, fold, false, option_map}
+use Rattle.dcv_command.proofs.Common.{option_map_or, AllByRecursion, bytes_eq, Kinds, Row, Shape, Text, fault_of, or_else, Names, Walk, finished}
+use Rattle.dcv_command.proofs.Common.{nothing_held, rows_after, settled, walk, walk_from, check_fault, level_fault, settle_fault, turn_fault, program}
+use Rattle.dcv_command.proofs.Common.{Command, commands, asked_of, request_in}
 use Rattle.std.specs.List.{ContainsAt}
 use Rattle.std.specs.Prelude.{Contains, option_and_then}
 use Rattle.std.proofs.ByRecursion.{All-get_or, All-weaker, all_has_itself}

@@ -36,4 +36,5 @@ any_is_found test (x ∷ xs) = by (test x) (any_is_found test xs)
 pub none_found : {X : Type 0} (test : X → Bool) (xs : List X) → list_all (λ x. not (test x)) xs ≡ true → find test xs ≡ None
 none_found test [] none = refl
 none_found test (x ∷ xs) none =
-    ap (λ passes. if passes then Some x else find test xs) (is_false (test x) (both (not (test x)) _ none).0) ∙ none_found test xs (both (not (test x)) _ none).1
+    ap (λ passes. if passes then Some x else find test xs) (is_false (test x) (both (not (test x)) _ none).0)
+    ∙ none_found test xs (both (not (test x)) _ none).1
