@@ -1,10 +1,15 @@
 -- The names that most proofs cite, passed on from one place.
-pub use Rattle.std.proofs.Common.{◌≡◌, ◌∙◌, refl, ap, true, List, [], false, ◌∷◌, sym, Bool, ℕ, Some, fold, Option, None, subst, ◌&&◌, if◌then◌else◌, find, ◌||◌, true≢false, arith, ◌<◌, ◌++◌, not, option_and_then, ◌==◌, ◌≤◌, length, codes, is_some, ◌+◌, map, option_map, drop, suc}
-pub use Rattle.clap.specs.Words.{Text, Row, Shape, Rule, Kinds, app_of, App, with_rule, with_subcommand, found_of, fault_of, takes, subcommand_rows_of, reading_of}
+pub use Rattle.std.proofs.Common.{◌≡◌, ◌∙◌, refl, ap, true, List, [], false, ◌∷◌, sym, Bool, ℕ, Some, fold, Option, None, subst, ◌&&◌, if◌then◌else◌, find}
+pub use Rattle.std.proofs.Common.{◌||◌, true≢false, arith, ◌<◌, ◌++◌, not, option_and_then, ◌==◌, ◌≤◌, length, codes, is_some, ◌+◌, map, option_map, drop}
+pub use Rattle.std.proofs.Common.{suc}
+pub use Rattle.clap.specs.Words.{Text, Row, Shape, Rule, Kinds, app_of, App, with_rule, with_subcommand, found_of, fault_of, takes, subcommand_rows_of}
+pub use Rattle.clap.specs.Words.{reading_of}
 pub use Rattle.std.specs.Str.{bytes_eq}
 pub use Rattle.std.specs.List.{AllByRecursion, list_all, list_any}
 pub use Rattle.clap.specs.Kinds.{or_else, check_kinds}
-pub use Rattle.clap.specs.Walk.{Held, nothing_held, settled, Walk, idle, arg_by_index, Step, after_step, finished, walk_from, rows_after, subcommand_met, walk, has_row, Waiting, option, plain_word, Names, subcommand_or_other, with_default, positional, word_met, trailing, value, after_flag, long_or_other, to_positional}
+pub use Rattle.clap.specs.Walk.{Held, nothing_held, settled, Walk, idle, arg_by_index, Step, after_step, finished, walk_from, rows_after, subcommand_met}
+pub use Rattle.clap.specs.Walk.{walk, has_row, Waiting, option, plain_word, Names, subcommand_or_other, with_default, positional, word_met, trailing}
+pub use Rattle.clap.specs.Walk.{value, after_flag, long_or_other, to_positional}
 pub use Rattle.std.specs.Option.{option_map_or}
 pub use Rattle.std.proofs.lemmas.Slice.Eq.{bytes_eq-Decides}
 pub use Rattle.dcv_command.specs.Table.{Argument, Value, FileName, Number, Command, commands, Form, Operand, Required, WithDefault, Asks, Of, value_of}

@@ -1,11 +1,11 @@
 -- Listed words are taken: the walk over a command's operands, each at its place, and then over its options, each by its name.
 use Rattle.dcv_command.proofs.Common.{◌≡◌, ◌<◌, refl, sym, ap, ◌∙◌, subst, Bool, true, false, ℕ, List, [], ◌∷◌, ◌++◌, Option, None, Some, arith}
-use Rattle.dcv_command.proofs.Common.{length, find, fold, map, not, ◌&&◌, ◌||◌, ◌+◌, if◌then◌else◌, is_some, option_and_then, option_map, option_map_or}
-use Rattle.dcv_command.proofs.Common.{AllByRecursion, list_all, list_any, bytes_eq, false_from_ne_true, bytes_eq-Decides, true≢false, Kinds, Row, Rule}
-use Rattle.dcv_command.proofs.Common.{Shape, Text, check_fault, check_kinds, or_else, default_passes, is_given, accepts, explicit_source}
-use Rattle.dcv_command.proofs.Common.{Held, Walk, idle, nothing_held, settled, walk_from, with_default, is_false, both, append-nil}
-use Rattle.dcv_command.proofs.Common.{IsOption, has_name, asked_in, asked_of, Argument, Asks, Command, Form, Operand, Required, WithDefault, Of, Value, FileName}
-use Rattle.dcv_command.proofs.Common.{Number, value_of}
+use Rattle.dcv_command.proofs.Common.{length, find, fold, map, not, ◌&&◌, ◌||◌, ◌+◌, if◌then◌else◌, is_some, option_and_then, option_map}
+use Rattle.dcv_command.proofs.Common.{option_map_or, AllByRecursion, list_all, list_any, bytes_eq, false_from_ne_true, bytes_eq-Decides, true≢false}
+use Rattle.dcv_command.proofs.Common.{Kinds, Row, Rule, Shape, Text, check_fault, check_kinds, or_else, default_passes, is_given, accepts}
+use Rattle.dcv_command.proofs.Common.{explicit_source, Held, Walk, idle, nothing_held, settled, walk_from, with_default, is_false, both, append-nil}
+use Rattle.dcv_command.proofs.Common.{IsOption, has_name, asked_in, asked_of, Argument, Asks, Command, Form, Operand, Required, WithDefault, Of}
+use Rattle.dcv_command.proofs.Common.{Value, FileName, Number, value_of}
 use Rattle.std.specs.Prelude.{Contains, IfSome}
 use Rattle.std.specs.Option.{option_or}
 use Rattle.std.proofs.ByRecursion.{All-append, All-get_or, All-map, All-weaker, all_kept_by, kept_by_passes}
@@ -17,14 +17,16 @@ use Rattle.clap.specs.declared.parser.matches.ValueSource.TheVariants.{CommandLi
 use Rattle.clap.proofs.WalkLemmas.{find-map}
 use Rattle.dcv_command.specs.Laws.{ListedWordsAreTaken}
 use Rattle.dcv_command.specs.Listed.{AreGiven, AskFor, CanBeGiven, IsChosen, Values, are_distinct, asked_with, if_operand, operand_words, option_words, word_of}
-use Rattle.dcv_command.proofs.Arguments.{AreLookedUp, IsLookedUp, Numbered, all_looked_up, built_rule, built_rules, built_shape, help, is_operand, is_required, is_small, next_place, numbered, of_numbered, operands, parser, to_numbered}
+use Rattle.dcv_command.proofs.Arguments.{AreLookedUp, IfOperand, IsLookedUp, Numbered, built_rule, built_rules, built_shape, help, is_operand, is_required}
+use Rattle.dcv_command.proofs.Arguments.{is_small, next_place, numbered, of_numbered, operands, parser, to_numbered}
 use Rattle.dcv_command.proofs.Commands.{IsCommand, is_among}
 use Rattle.dcv_command.proofs.Lists.{all_both, any_is_found, if_found, none_passes}
 use Rattle.dcv_command.proofs.NumberTexts.{HasNoDash, decimal_is_one, has_no_dash}
 use Rattle.dcv_command.proofs.Parses.{defaults_agree, no_kind}
 use Rattle.dcv_command.proofs.Rows.{IsRead, IsReadable, OfDefault, default_of, found_after, is_read, readable, row_named}
 use Rattle.dcv_command.proofs.TakenWords.{default_is_accepted}
-use Rattle.dcv_command.proofs.Walks.{Holds, Runs, ask_for, at_end, flag_goes, given_by, going, has_given_row, holding, holds_one, more, nothing_holds, operand_goes, value_goes}
+use Rattle.dcv_command.proofs.Walks.{Holds, Runs, ask_for, at_end, flag_goes, given_by, going, has_given_row, holding, holds_one, more, nothing_holds}
+use Rattle.dcv_command.proofs.Walks.{operand_goes, value_goes}
 
 -- ---- lists of arguments with different names
 
@@ -33,12 +35,15 @@ distinct_before [] rest one apart = refl
 distinct_before (first ∷ done) rest one apart =
     let parts = both (not (has_name first.id (done ++ one ∷ rest))) _ apart in
     let other : bytes_eq one.id first.id ≡ false =
-    (or_parts (bytes_eq one.id first.id) _ (or_parts (has_name first.id done) _ (sym (list_any-append (λ (other : Argument). bytes_eq other.id first.id) done (one ∷ rest)) ∙ is_false _ parts.0)).1).0 in
+    (or_parts (bytes_eq one.id first.id) _ (or_parts (has_name first.id done) _
+    (sym (list_any-append (λ (other : Argument). bytes_eq other.id first.id) done (one ∷ rest)) ∙ is_false _ parts.0)).1).0 in
     or_from (bytes_eq first.id one.id) (has_name one.id done)
-    (false_from_ne_true (bytes_eq first.id one.id) (λ same. true≢false (sym ((bytes_eq-Decides one.id first.id).1 (sym ((bytes_eq-Decides first.id one.id).0 same))) ∙ other)))
+    (false_from_ne_true (bytes_eq first.id one.id) (λ same. true≢false
+    (sym ((bytes_eq-Decides one.id first.id).1 (sym ((bytes_eq-Decides first.id one.id).0 same))) ∙ other)))
     (distinct_before done rest one parts.1)
 
-distinct_append : (first others : List Argument) → are_distinct first ≡ true → are_distinct others ≡ true → AllByRecursion (λ one. has_name one.id others ≡ false) first
+distinct_append : (first others : List Argument) → are_distinct first ≡ true → are_distinct others ≡ true
+    → AllByRecursion (λ one. has_name one.id others ≡ false) first
     → are_distinct (first ++ others) ≡ true
 distinct_append [] others apart more_apart unnamed = more_apart
 distinct_append (one ∷ first) others apart more_apart (unnamed, more_unnamed) =
@@ -85,14 +90,16 @@ module _ (name : Text) (arguments given : List Argument) (values : Values) where
     runs : Runs shape (going held idle place) from words
 
   module _ (apart : are_distinct all ≡ true) where
-    options_end : (left done : List Argument) → done ++ left ≡ all → (held : Held) (place : ℕ) → Holds arguments values held done → AllByRecursion IsGivenOption left
+    options_end : (left done : List Argument) → done ++ left ≡ all → (held : Held) (place : ℕ) → Holds arguments values held done
+        → AllByRecursion IsGivenOption left
         → Ended (going held idle place) (option_words values left)
     options_end [] done e held place holds each =
         record { held = held; place = place; holds = subst (Holds arguments values held) (sym (append-nil done) ∙ e) holds; runs = at_end }
     options_end (one ∷ rest) done e held place holds ((number, (is, option)), each) =
         let text = word_is one.value (values one) is.is.small is.can in
         let fresh = distinct_before done rest one (subst (λ all. are_distinct all ≡ true) (sym e) apart) in
-        let next = options_end rest (done ++ one ∷ []) (append_assoc done (one ∷ []) rest ∙ e) (holding (map (given_by values) done) one.id (word_of one.value (values one))) place
+        let next = options_end rest (done ++ one ∷ []) (append_assoc done (one ∷ []) rest ∙ e)
+        (holding (map (given_by values) done) one.id (word_of one.value (values one))) place
         (holds_one arguments values held done holds (number, one) is.is fresh text.1.0) each in
         record {
           held = next.held;
@@ -103,7 +110,8 @@ module _ (name : Text) (arguments given : List Argument) (values : Values) where
         }
 
     operands_end : (left done : List Argument) (place : ℕ) → done ++ (operands left ++ given) ≡ all → (held : Held) → Holds arguments values held done
-        → AllByRecursion (λ at. IsOperand at.1.form → IsItem arguments values at) (numbered left place) → place + length left < 2000 → AllByRecursion IsGivenOption given
+        → AllByRecursion (λ at. IsOperand at.1.form → IsItem arguments values at) (numbered left place) → place + length left < 2000
+        → AllByRecursion IsGivenOption given
         → Ended (going held idle place) (operand_words values left ++ option_words values given)
     operands_end [] done place e held holds each few options = options_end given done e held place holds options
     operands_end (one ∷ rest) done place e held holds (can, each) few options = by one.form (λ operand. operand) e each (operands_end rest)
@@ -111,7 +119,8 @@ module _ (name : Text) (arguments given : List Argument) (values : Values) where
         by : (form : Form) → (IsOperand form → IsOperand one.form) → done ++ ((if is_operand form then one ∷ operands rest else operands rest) ++ given) ≡ all
             → AllByRecursion (λ at. IsOperand at.1.form → IsItem arguments values at) (numbered rest (next_place form place))
             → ((done : List Argument) (place : ℕ) → done ++ (operands rest ++ given) ≡ all → (held : Held) → Holds arguments values held done
-            → AllByRecursion (λ at. IsOperand at.1.form → IsItem arguments values at) (numbered rest place) → place + length rest < 2000 → AllByRecursion IsGivenOption given
+            → AllByRecursion (λ at. IsOperand at.1.form → IsItem arguments values at) (numbered rest place) → place + length rest < 2000
+            → AllByRecursion IsGivenOption given
             → Ended (going held idle place) (operand_words values rest ++ option_words values given))
             → Ended (going held idle place) (if_operand form (word_of one.value (values one)) (operand_words values rest) ++ option_words values given)
         by Operand operand e each later =
@@ -125,7 +134,8 @@ module _ (name : Text) (arguments given : List Argument) (values : Values) where
               held = next.held;
               place = next.place;
               holds = next.holds;
-              runs = more (operand_goes arguments values held done holds (place, one) item.is name text.0 (operand (λ option. option)) (omega (arith, few))) next.runs;
+              runs = more (operand_goes arguments values held done holds (place, one) item.is name text.0 (operand (λ option. option))
+                  (omega (arith, few))) next.runs;
             }
         by _ operand e each later = later done place e held holds each (omega (arith, few)) options
 
@@ -145,7 +155,7 @@ operand_is : (form : Form) → is_operand form ≡ true → IsOperand form
 operand_is Operand is option = option
 operand_is _ is option = true≢false (sym is)
 
-required_named : (form : Form) (value : Value) (given : Of value) (operand named : Bool) → (not (is_operand form) || operand) ≡ true
+required_named : (form : Form) (value : Value) (given : Of value) (operand named : Bool) → IfOperand form (operand ≡ true)
     → IsChosen form value given named → is_required form ≡ true → (operand || named) ≡ true
 required_named Operand value given operand named there is required = or_left operand named there
 required_named Required value given operand named there is required = or_right operand named is.0
@@ -178,7 +188,7 @@ module _ (command : Command) (is : IsCommand command) (values : Values) (given :
   every = all command.name arguments given values
 
   looked_up : AreLookedUp arguments
-  looked_up = all_looked_up arguments is.sound
+  looked_up = is.looked_up
 
   abbrev IsKnown : Numbered → Type 0
   IsKnown at = IsLookedUp arguments at × IsChosen at.1.form at.1.value (values at.1) (has_name at.1.id given)
@@ -198,7 +208,8 @@ module _ (command : Command) (is : IsCommand command) (values : Values) (given :
       → ((id : Text) → has_name id left ≡ true → has_name id given ≡ true) → AllByRecursion (IsGivenOption command.name arguments given values) left
   options_given [] options named = tt
   options_given (one ∷ rest) ((has, option), others) named =
-      let at : HasPlace IsKnown one = subst (HasPlace IsKnown) has.2 (All-get_or (HasPlace IsKnown) arguments has.0 one has.1 (placed IsKnown (λ at known. known))) in
+      let at : HasPlace IsKnown one = subst (HasPlace IsKnown) has.2
+      (All-get_or (HasPlace IsKnown) arguments has.0 one has.1 (placed IsKnown (λ at known. known))) in
       let own = named one.id (or_left (bytes_eq one.id one.id) (has_name one.id rest) ((bytes_eq-Decides one.id one.id).1 refl)) in (
         (at.0, (record { is = at.1.0; can = chosen_is one.form one.value (values one) (has_name one.id given) own at.1.1 }, option)),
         options_given rest others (λ id is. named id (or_right (bytes_eq one.id id) (has_name id rest) is)),
@@ -223,14 +234,16 @@ module _ (command : Command) (is : IsCommand command) (values : Values) (given :
   -- an option bears no operand's name
   unnamed : (one : Argument) → IsOperandItem one → has_name one.id given ≡ false
   unnamed one (operand, item) = any_is_found (λ other. bytes_eq other.id one.id) given
-      ∙ by (find (λ other. bytes_eq other.id one.id) given) (if_found (IsGivenOption command.name arguments given values) (λ other. bytes_eq other.id one.id) given options)
+      ∙ by (find (λ other. bytes_eq other.id one.id) given) (if_found (IsGivenOption command.name arguments given values)
+      (λ other. bytes_eq other.id one.id) given options)
     where
       by : (found : Option Argument) → IfSome found (λ other. IsGivenOption command.name arguments given values other × (bytes_eq other.id one.id ≡ true))
           → is_some found ≡ false
       by None is = refl
       by (Some other) ((number, (other_item, option)), same) =
           absurd (operand (subst (λ found. IfSome found (λ (at : Numbered). IsOption at.1.form))
-          (sym other_item.is.argument ∙ ap (λ id. find (λ (at : Numbered). bytes_eq at.1.id id) (numbered arguments 1)) ((bytes_eq-Decides other.id one.id).0 same)
+          (sym other_item.is.argument ∙ ap (λ id. find (λ (at : Numbered). bytes_eq at.1.id id) (numbered arguments 1))
+          ((bytes_eq-Decides other.id one.id).0 same)
           ∙ item.1.is.argument) option))
 
   ended : Ended command.name arguments given values (walk_from nothing_held) (operand_words values arguments ++ option_words values given)
@@ -240,7 +253,7 @@ module _ (command : Command) (is : IsCommand command) (values : Values) (given :
       (All-weaker IsOperandItem (λ one. has_name one.id given ≡ false) unnamed (operands arguments) operand_items))
       arguments [] 1 refl nothing_held (nothing_holds arguments values)
       (All-weaker IsKnown (λ at. IsOperand at.1.form → IsItem arguments values at) operand_item (numbered arguments 1) known)
-      (omega (arith, looked_up.few)) options
+      (omega (arith, ltb-true (length arguments) 1000 looked_up.few)) options
 
   -- ---- after the words
 
@@ -254,7 +267,8 @@ module _ (command : Command) (is : IsCommand command) (values : Values) (given :
   each_readable =
       All-map (IsReadable (Means values) arguments) (given_by values) every
       (All-append (λ one. IsReadable (Means values) arguments (given_by values one)) (operands arguments) given
-      (All-weaker IsOperandItem (λ one. IsReadable (Means values) arguments (given_by values one)) (λ one item. of_item one item.1.0 item.1.1) (operands arguments) operand_items)
+      (All-weaker IsOperandItem (λ one. IsReadable (Means values) arguments (given_by values one))
+      (λ one item. of_item one item.1.0 item.1.1) (operands arguments) operand_items)
       (All-weaker (IsGivenOption command.name arguments given values) (λ one. IsReadable (Means values) arguments (given_by values one))
       (λ one item. of_item one item.0 item.1.0) given options))
     where
@@ -272,7 +286,8 @@ module _ (command : Command) (is : IsCommand command) (values : Values) (given :
       ∙ by (find (λ (one : Argument). bytes_eq one.id at.1.id) every) (sym (any_is_found (λ (one : Argument). bytes_eq one.id at.1.id) every) ∙ named)
     where
       by : (found : Option Argument) → is_some found ≡ true
-          → option_map_or (λ (row : Row). explicit_source row.source) (option_or (option_map (given_by values) found) (default_of (Some (built_rule at)))) false ≡ true
+          → option_map_or (λ (row : Row). explicit_source row.source)
+          (option_or (option_map (given_by values) found) (default_of (Some (built_rule at)))) false ≡ true
       by None some = absurd (true≢false (sym some))
       by (Some one) some = refl
 
@@ -313,7 +328,8 @@ module _ (command : Command) (is : IsCommand command) (values : Values) (given :
 
   listed : AskFor (command.name ∷ operand_words values arguments ++ option_words values given) (asked_with arguments command.asks values)
   listed =
-      ask_for command is (operand_words values arguments ++ option_words values given) (going ended.held idle ended.place) (asked_with arguments command.asks values)
+      ask_for command is (operand_words values arguments ++ option_words values given) (going ended.held idle ended.place)
+      (asked_with arguments command.asks values)
       ended.runs
       (ap (λ kinds. or_else kinds (behind (settled (built_rules arguments) ended.held))) ended.holds.no_fault ∙ ap behind ended.holds.settles
       ∙ ap (λ kinds. or_else kinds (check_fault (built_shape command.name arguments) at_last false))

@@ -1,12 +1,8 @@
 -- What is found in a list, and what its tests say of each element.
-use Rattle.dcv_command.proofs.Common.{◌≡◌, refl, ap, ◌∙◌, Bool, true, false, List, [], ◌∷◌, ◌++◌, None, Some, find, is_some, map, not, ◌&&◌, ◌||◌}
+use Rattle.dcv_command.proofs.Common.{◌≡◌, refl, ap, ◌∙◌, Bool, true, false, List, [], ◌∷◌, None, Some, find, is_some, not, ◌||◌}
 use Rattle.dcv_command.proofs.Common.{if◌then◌else◌, AllByRecursion, list_all, list_any, both, is_false}
 use Rattle.std.specs.Prelude.{IfSome}
 use Rattle.std.proofs.lemmas.Bool.{or_from, or_parts}
-
-pub each_passes : {X : Type 0} (test : X → Bool) (xs : List X) → list_all test xs ≡ true → AllByRecursion (λ x. test x ≡ true) xs
-each_passes test [] all = tt
-each_passes test (x ∷ xs) all = ((both (test x) _ all).0, each_passes test xs (both (test x) _ all).1)
 
 pub each_fails : {X : Type 0} (test : X → Bool) (xs : List X) → list_any test xs ≡ false → AllByRecursion (λ x. test x ≡ false) xs
 each_fails test [] none = tt
@@ -40,29 +36,5 @@ any_is_found test (x ∷ xs) = by (test x) (any_is_found test xs)
 pub none_found : {X : Type 0} (test : X → Bool) (xs : List X) → list_all (λ x. not (test x)) xs ≡ true → find test xs ≡ None
 none_found test [] none = refl
 none_found test (x ∷ xs) none =
-    ap (λ passes. if passes then Some x else find test xs) (is_false (test x) (both (not (test x)) _ none).0) ∙ none_found test xs (both (not (test x)) _ none).1
-
--- ---- each element of a list is what its own test finds
-
--- none passes the test of a later one
-abbrev pub are_apart : {X Y : Type 0} → (X → Y → Bool) → (X → Y) → List X → Bool
-are_apart test made [] = true
-are_apart test made (x ∷ xs) = list_all (λ later. not (test later (made x))) xs && are_apart test made xs
-
-module _ {X Y : Type 0} (test : X → Y → Bool) (made : X → Y) where
-  abbrev pub Finds : List Y → X → Type 0
-  Finds all x = test x (made x) ≡ true → find (test x) all ≡ Some (made x)
-
-  found_behind : (first : Y) (all : List Y) (xs : List X) → list_all (λ later. not (test later first)) xs ≡ true → AllByRecursion (Finds all) xs
-      → AllByRecursion (Finds (first ∷ all)) xs
-  found_behind first all [] apart found = tt
-  found_behind first all (x ∷ xs) apart (one, others) = (
-    λ own. ap (λ passes. if passes then Some first else find (test x) all) (is_false (test x first) (both (not (test x first)) _ apart).0) ∙ one own,
-    found_behind first all xs (both (not (test x first)) _ apart).1 others,
-  )
-
-  pub own_found : (more : List Y) (xs : List X) → are_apart test made xs ≡ true → AllByRecursion (Finds (map made xs ++ more)) xs
-  own_found more [] apart = tt
-  own_found more (x ∷ xs) apart =
-      let parts = both (list_all (λ later. not (test later (made x))) xs) _ apart in
-      (λ own. ap (λ passes. if passes then Some (made x) else find (test x) (map made xs ++ more)) own, found_behind (made x) (map made xs ++ more) xs parts.0 (own_found more xs parts.1))
+    ap (λ passes. if passes then Some x else find test xs) (is_false (test x) (both (not (test x)) _ none).0)
+    ∙ none_found test xs (both (not (test x)) _ none).1

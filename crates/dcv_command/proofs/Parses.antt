@@ -4,10 +4,11 @@ use Rattle.dcv_command.proofs.Common.{◌≡◌, refl, sym, ap, ◌∙◌, ℕ, 
 use Rattle.dcv_command.proofs.Common.{◌&&◌, ◌||◌, if◌then◌else◌, codes, AllByRecursion, list_all, list_any, option_map_or, bytes_eq, true≢false, both}
 use Rattle.dcv_command.proofs.Common.{Kinds, Row, Rule, Shape, Text, or_else, check_kinds, fault_of, takes, program, long_of, short_of, accepts, is_given}
 use Rattle.dcv_command.proofs.Common.{Held, Names, Step, Waiting, Walk, option, value, trailing, nothing_held, after_flag, after_step, arg_by_index}
-use Rattle.dcv_command.proofs.Common.{long_or_other, plain_word, settled, finished, subcommand_met, subcommand_or_other, to_positional, word_met, walk, walk_from}
+use Rattle.dcv_command.proofs.Common.{long_or_other, plain_word, settled, finished, subcommand_met, subcommand_or_other, to_positional, word_met, walk}
+use Rattle.dcv_command.proofs.Common.{walk_from}
 use Rattle.dcv_command.proofs.Common.{check_fault, level_fault, other_fault, settle_fault, step_fault, turn_fault, word_fault}
 use Rattle.dcv_command.proofs.Common.{default_passes, is_valid, level_passes, other_passes, settle_passes, step_passes, turn_passes, word_passes}
-use Rattle.dcv_command.proofs.Lists.{each_passes, if_found}
+use Rattle.dcv_command.proofs.Lists.{if_found}
 use Rattle.std.proofs.Common.{zero, length, ap₂, arith}
 use Rattle.std.specs.Prelude.{IfSome, nat_le, slice_get}
 use Rattle.std.specs.Str.{chars}
@@ -18,13 +19,13 @@ use Rattle.clap.specs.Facts.{explicit_source, parser_of_value, unwrap_or_range}
 use Rattle.clap.specs.Values.{is_request, refused_kind}
 use Rattle.clap.specs.Simple.{label_of, names_of}
 use Rattle.clap.specs.Kinds.{range_kinds, request_kinds, values_kinds}
-use Rattle.clap.specs.Faults.{action_fault, defaults_fault, entered_fault, flag_word_fault, flags_fault, long_fault, option_fault}
+use Rattle.clap.specs.Faults.{action_fault, set_fault, defaults_fault, entered_fault, flag_word_fault, flags_fault, long_fault, option_fault}
 use Rattle.clap.specs.Faults.{positional_fault, react_fault, short_fault, stray_fault, use_fault, walk_fault}
-use Rattle.clap.specs.Takes.{action_passes, entered_passes, flag_word_passes, flags_pass, long_passes, option_passes, positional_passes, react_passes}
+use Rattle.clap.specs.Takes.{action_passes, set_passes, entered_passes, flag_word_passes, flags_pass, long_passes, option_passes, positional_passes, react_passes}
 use Rattle.clap.specs.Takes.{short_passes, use_passes, walk_passes}
-use Rattle.clap.specs.Walk.{Outcome, done, waits, plain, action_of, answers_to, arg_by_id, arg_by_long, arg_by_short, attached_value, bundle_met, has_row}
-use Rattle.clap.specs.Walk.{is_empty, is_pending, long_met, most_values, values_or_missing, option_met, option_word, reacted, settled_rows, short_met, takes_several, takes_values, used}
-use Rattle.clap.specs.Walk.{used_by_id, walked, walked_from}
+use Rattle.clap.specs.Walk.{Outcome, done, waits, plain, action_of, answers_to, arg_by_id, arg_by_long, arg_by_short, attached_value, bundle_met}
+use Rattle.clap.specs.Walk.{has_row, is_empty, is_pending, long_met, most_values, values_or_missing, option_met, option_word, reacted, settled_rows}
+use Rattle.clap.specs.Walk.{short_met, takes_several, takes_values, used, used_by_id, walked, walked_from}
 use Rattle.clap.specs.declared.builder.action.ArgAction.{ArgAction}
 use Rattle.clap.specs.declared.builder.action.ArgAction.TheVariants as action
 use Rattle.clap.specs.declared.builder.value_parser.ValueParser.{ValueParser}
@@ -94,28 +95,36 @@ strays false = refused
 values_agree : {P : Type 0} (ignore_case : Bool) (parser : ValueParser) (values : List Text)
     → Agrees P (values_kinds ignore_case parser values) (list_all (accepts ignore_case parser) values) P
 values_agree ignore_case parser [] = nothing
-values_agree ignore_case parser (one ∷ values) = in_turn (accepted (accepts ignore_case parser one) (refused_kind parser)) (values_agree ignore_case parser values)
+values_agree ignore_case parser (one ∷ values) = in_turn (accepted (accepts ignore_case parser one) (refused_kind parser))
+    (values_agree ignore_case parser values)
 
 range_same : (least most number : ℕ) → is_none (range_kinds least most number) ≡ (nat_le least number && nat_le number most)
 range_same least most number = grind (arith, nat_tests)
 
+set_agrees : (again : Bool) (rule : Rule) (values : List Text) (rows : List Row)
+    → Agrees (Unit {0}) (set_fault again rule values rows) (set_passes again rule values rows) (Unit {0})
+set_agrees again rule values rows =
+    in_turn (unless (has_row rule.id rows) again kind.ArgumentConflict []) (values_agree rule.ignore_case (parser_of_value rule.parser) values)
+
 action_agrees : (what : ArgAction) (again : Bool) (rule : Rule) (values : List Text) (rows : List Row)
     → Agrees (Unit {0}) (action_fault what again rule values rows) (action_passes what again rule values rows) (Unit {0})
-action_agrees action.Set again rule values rows = in_turn (unless (has_row rule.id rows) again kind.ArgumentConflict []) (values_agree rule.ignore_case (parser_of_value rule.parser) values)
-action_agrees action.SetTrue again rule values rows = in_turn (unless (has_row rule.id rows) again kind.ArgumentConflict []) (values_agree rule.ignore_case (parser_of_value rule.parser) values)
-action_agrees action.SetFalse again rule values rows = in_turn (unless (has_row rule.id rows) again kind.ArgumentConflict []) (values_agree rule.ignore_case (parser_of_value rule.parser) values)
+action_agrees action.Set again rule values rows = set_agrees again rule values rows
+action_agrees action.SetTrue again rule values rows = set_agrees again rule values rows
+action_agrees action.SetFalse again rule values rows = set_agrees again rule values rows
 action_agrees action.Append again rule values rows = values_agree rule.ignore_case (parser_of_value rule.parser) values
 action_agrees action.Count again rule [] rows = accepted _ (refused_kind (parser_of_value rule.parser))
 action_agrees action.Count again rule (one ∷ values) rows = values_agree rule.ignore_case (parser_of_value rule.parser) (one ∷ values)
 action_agrees _ again rule values rows = refused
 
-pub use_same : (again : Bool) (rule : Rule) (values : List Text) (rows : List Row) → is_none (use_fault again rule values rows) ≡ use_passes again rule values rows
+pub use_same : (again : Bool) (rule : Rule) (values : List Text) (rows : List Row) → is_none (use_fault again rule values rows)
+    ≡ use_passes again rule values rows
 use_same again rule values rows =
     let least = (unwrap_or_range rule.range).start_inclusive in
     let used = action_agrees (action_of rule) again rule (values_or_missing rule values) rows in
     none_of_both (range_kinds least (most_values rule) (length values)) (action_fault (action_of rule) again rule (values_or_missing rule values) rows)
     ∙ ap₂ (λ some passes. some && passes) (range_same least (most_values rule) (length values)) used.same
-    ∙ and_assoc (nat_le least (length values)) (nat_le (length values) (most_values rule)) (action_passes (action_of rule) again rule (values_or_missing rule values) rows)
+    ∙ and_assoc (nat_le least (length values)) (nat_le (length values) (most_values rule))
+    (action_passes (action_of rule) again rule (values_or_missing rule values) rows)
 
 -- a use of the argument that has no fault keeps this of the rows
 abbrev pub Keeps : Bool → (List Row → Type 0) → Rule → Type 0
@@ -306,7 +315,8 @@ lacks_one false given others = refl
 all_there : (rules : List Rule) (rows : List Row)
     → list_all (λ rule. not rule.required || is_given rule.id rows) rules ≡ not (list_any (λ rule. rule.required && not (is_given rule.id rows)) rules)
 all_there [] rows = refl
-all_there (rule ∷ rules) rows = ap (λ all. (not rule.required || is_given rule.id rows) && all) (all_there rules rows) ∙ lacks_one rule.required (is_given rule.id rows) _
+all_there (rule ∷ rules) rows = ap (λ all. (not rule.required || is_given rule.id rows) && all) (all_there rules rows)
+    ∙ lacks_one rule.required (is_given rule.id rows) _
 
 checks_same : (help any needs has negates lacks : Bool)
     → is_none (check_kinds (not has && (help && not any)) (not has && needs) (not (negates && has) && lacks))
@@ -370,10 +380,15 @@ keep_anything : (override : Bool) (rules : List Rule) → AllByRecursion (Keeps 
 keep_anything override [] = tt
 keep_anything override (rule ∷ rules) = (λ values rows none kept. tt, keep_anything override rules)
 
+each_checked : AllByRecursion (λ shape. is_checked shape ≡ true) (built program).subs
+each_checked = assumption
+
 entered_same : (stop : Option (Text × List Text)) → is_none (entered_fault (built program) stop) ≡ entered_passes (built program) stop
 entered_same None = refl
-entered_same (Some p) = by (find (λ shape. answers_to p.0 (label_of shape)) (built program).subs) (if_found (λ shape. is_checked shape ≡ true) (λ shape. answers_to p.0 (label_of shape)) (built program).subs
-    (each_passes is_checked (built program).subs refl))
+entered_same (Some p) =
+    by (find (λ shape. answers_to p.0 (label_of shape)) (built program).subs)
+    (if_found (λ shape. is_checked shape ≡ true) (λ shape. answers_to p.0 (label_of shape)) (built program).subs
+    each_checked)
   where
     by : (found : Option Shape) → IfSome found (λ shape. (is_checked shape ≡ true) × (answers_to p.0 (label_of shape) ≡ true))
         → is_none (option_map_or (λ shape. level_fault shape [] nothing_held p.1 false []) found [])

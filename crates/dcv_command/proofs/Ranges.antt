@@ -44,7 +44,8 @@ abbrev AsksInRange : (arguments : List Argument) → Asks arguments → Type 0
 AsksInRange [] request = IsInRange request
 AsksInRange (one ∷ rest) asks = (given : Of one.value) → IsWithin one.value given → AsksInRange rest (asks given)
 
-asked_in_range : (arguments : List Argument) (asks : Asks arguments) (rows : List Row) → AsksInRange arguments asks → IfSome (asked_in arguments asks rows) IsInRange
+asked_in_range : (arguments : List Argument) (asks : Asks arguments) (rows : List Row) → AsksInRange arguments asks
+    → IfSome (asked_in arguments asks rows) IsInRange
 asked_in_range [] request rows fine = fine
 asked_in_range (one ∷ rest) asks rows fine =
     known_after (IsWithin one.value) IsInRange (λ given. asked_in rest (asks given) rows)

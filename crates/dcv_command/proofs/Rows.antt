@@ -1,9 +1,9 @@
 -- The rows of a parse: which one an argument has at the end, and the value that is read from it.
-use Rattle.dcv_command.proofs.Common.{◌≡◌, refl, sym, ap, ◌∙◌, subst, Bool, true, false, List, [], ◌∷◌, ◌++◌, Option, None, Some, find, fold, not, ◌&&◌, ◌||◌}
-use Rattle.dcv_command.proofs.Common.{if◌then◌else◌, option_and_then, option_map, option_map_or, is_some, AllByRecursion, list_all, list_any, bytes_eq, append-nil}
-use Rattle.dcv_command.proofs.Common.{digits_value, without_leading_plus, bytes_eq-Decides, true≢false, both, Row, Rule, Text, reading_of, explicit_source}
-use Rattle.dcv_command.proofs.Common.{is_given, accepts, has_row, with_default, check_kinds, number_of, value_in, Argument, Form, WithDefault, Value, FileName}
-use Rattle.dcv_command.proofs.Common.{Number, value_of}
+use Rattle.dcv_command.proofs.Common.{◌≡◌, refl, sym, ap, ◌∙◌, subst, Bool, true, false, List, [], ◌∷◌, ◌++◌, Option, None, Some, find, fold, not}
+use Rattle.dcv_command.proofs.Common.{◌&&◌, ◌||◌, if◌then◌else◌, option_and_then, option_map, option_map_or, is_some, AllByRecursion, list_all}
+use Rattle.dcv_command.proofs.Common.{list_any, bytes_eq, append-nil, digits_value, without_leading_plus, bytes_eq-Decides, true≢false, both, Row}
+use Rattle.dcv_command.proofs.Common.{Rule, Text, reading_of, explicit_source, is_given, accepts, has_row, with_default, check_kinds, number_of}
+use Rattle.dcv_command.proofs.Common.{value_in, Argument, Form, WithDefault, Value, FileName, Number, value_of}
 use Rattle.std.specs.Prelude.{IfSome, slice_get}
 use Rattle.std.specs.Option.{option_or}
 use Rattle.std.proofs.lemmas.List.Folds.{find-append}
@@ -13,8 +13,8 @@ use Rattle.clap.specs.declared.builder.value_parser.Reading.{Reading}
 use Rattle.clap.specs.declared.builder.value_parser.Reading.TheVariants.{AsWritten}
 use Rattle.clap.specs.declared.parser.matches.ValueSource.{ValueSource}
 use Rattle.clap.specs.declared.parser.matches.ValueSource.TheVariants.{CommandLine, DefaultValue}
-use Rattle.dcv_command.proofs.Arguments.{AreLookedUp, IsLookedUp, Numbered, built_rule, built_rules, defaults_of, is_required, numbered, parser}
-use Rattle.dcv_command.proofs.Lists.{any_is_found, are_apart, each_fails, if_found, none_found}
+use Rattle.dcv_command.proofs.Arguments.{are_apart, AreLookedUp, IsLookedUp, Numbered, built_rule, built_rules, defaults_of, is_required, numbered, parser}
+use Rattle.dcv_command.proofs.Lists.{any_is_found, each_fails, if_found, none_found}
 
 -- the row of an argument that had none
 abbrev pub new_row : Text → Reading → ValueSource → List Text → Row
@@ -61,7 +61,8 @@ or_there (Some row) other some = refl
 
 -- what a default changes of what an argument has
 after_default : (rule : Rule) (rows : List Row) (id : Text)
-    → row_named id (with_default rows rule) ≡ (if bytes_eq rule.id id then option_or (row_named id rows) (default_row rule rule.defaults) else row_named id rows)
+    → row_named id (with_default rows rule) ≡ (if bytes_eq rule.id id then option_or (row_named id rows)
+    (default_row rule rule.defaults) else row_named id rows)
 after_default rule rows id = by (has_row rule.id rows) (bytes_eq rule.id id) rule.defaults refl refl
   where
     behind : (value : Text) (values : List Text) → has_row rule.id rows ≡ false
@@ -75,27 +76,29 @@ after_default rule rows id = by (has_row rule.id rows) (bytes_eq rule.id id) rul
         ≡ (if same then option_or (row_named id rows) (default_row rule values) else row_named id rows)
     by true false values has is = refl
     by true true values has is =
-        sym (or_there (row_named id rows) _ (sym (any_is_found (λ (row : Row). bytes_eq row.id id) rows) ∙ ap (λ id. has_row id rows) (sym ((bytes_eq-Decides rule.id id).0 is)) ∙ has))
+        sym (or_there (row_named id rows) _ (sym (any_is_found (λ (row : Row). bytes_eq row.id id) rows)
+        ∙ ap (λ id. has_row id rows) (sym ((bytes_eq-Decides rule.id id).0 is)) ∙ has))
     by false true [] has is = sym (or_none (row_named id rows))
     by false false [] has is = refl
     by false true (value ∷ values) has is =
         behind value values has ∙ ap (λ same. option_or (row_named id rows) (if same then default_row rule (value ∷ values) else None)) is
     by false false (value ∷ values) has is =
-        behind value values has ∙ ap (λ same. option_or (row_named id rows) (if same then default_row rule (value ∷ values) else None)) is ∙ or_none (row_named id rows)
+        behind value values has ∙ ap (λ same. option_or (row_named id rows) (if same then default_row rule (value ∷ values) else None)) is
+        ∙ or_none (row_named id rows)
 
 abbrev pub default_of : Option Rule → Option Row
 default_of found = option_and_then (λ rule. default_row rule rule.defaults) found
 
 -- what an argument has at the end
-pub found_after : (rules : List Rule) (rows : List Row) (id : Text) → are_apart (λ (rule other : Rule). bytes_eq rule.id other.id) (λ rule. rule) rules ≡ true
+pub found_after : (rules : List Rule) (rows : List Row) (id : Text) → are_apart rules ≡ true
     → row_named id (fold with_default rows rules) ≡ option_or (row_named id rows) (default_of (arg_by_id rules id))
 found_after [] rows id apart = sym (or_none (row_named id rows))
 found_after (rule ∷ rules) rows id apart =
     found_after rules (with_default rows rule) id parts.1 ∙ ap (λ found. option_or found (default_of (arg_by_id rules id))) (after_default rule rows id)
     ∙ by (bytes_eq rule.id id) refl
   where
-    parts : (list_all (λ other. not (bytes_eq other.id rule.id)) rules ≡ true) × (are_apart (λ (rule other : Rule). bytes_eq rule.id other.id) (λ rule. rule) rules ≡ true)
-    parts = both (list_all (λ (other : Rule). not (bytes_eq other.id rule.id)) rules) _ apart
+    parts : (list_all (λ (other : Rule). not (bytes_eq other.id rule.id)) rules ≡ true) × (are_apart rules ≡ true)
+    parts = both (list_all (λ (other : Rule). not (bytes_eq other.id rule.id)) rules) (are_apart rules) apart
 
     by : (same : Bool) → bytes_eq rule.id id ≡ same
         → option_or (if same then option_or (row_named id rows) (default_row rule rule.defaults) else row_named id rows) (default_of (arg_by_id rules id))
@@ -185,7 +188,8 @@ module _ (P : Argument → Text → Type 0) (taken : (one : Argument) (text : Te
       required =
           let lacks : (is_required at.1.form && not (is_given at.1.id at_last)) ≡ false =
           (subst (λ found. IfSome found (λ rule. ((rule.required && not (is_given rule.id at_last)) ≡ false) × (bytes_eq rule.id at.1.id ≡ true))) is.by_id
-          (if_found (λ (rule : Rule). (rule.required && not (is_given rule.id at_last)) ≡ false) (λ (rule : Rule). bytes_eq rule.id at.1.id) (built_rules arguments)
+          (if_found (λ (rule : Rule). (rule.required && not (is_given rule.id at_last)) ≡ false) (λ (rule : Rule). bytes_eq rule.id at.1.id)
+          (built_rules arguments)
           (each_fails (λ (rule : Rule). rule.required && not (is_given rule.id at_last)) (built_rules arguments) (lacks_none _ none)))).0 in
           given_if (is_required at.1.form) (is_given at.1.id at_last) lacks
 
@@ -194,7 +198,8 @@ module _ (P : Argument → Text → Type 0) (taken : (one : Argument) (text : Te
       is_read default = by (row_named at.1.id rows) refl (if_found (IsReadable P arguments) (λ row. bytes_eq row.id at.1.id) rows all)
         where
           after : row_named at.1.id at_last ≡ option_or (row_named at.1.id rows) (default_row (built_rule at) (defaults_of at.1.form))
-          after = found_after (built_rules arguments) rows at.1.id looked_up.rules_apart ∙ ap (λ found. option_or (row_named at.1.id rows) (default_of found)) is.by_id
+          after = found_after (built_rules arguments) rows at.1.id looked_up.rules_apart
+              ∙ ap (λ found. option_or (row_named at.1.id rows) (default_of found)) is.by_id
 
           left_out : (form : Form) → OfDefault (P at.1) form → (is_required form ≡ true → is_given at.1.id at_last ≡ true)
               → row_named at.1.id at_last ≡ default_row (built_rule at) (defaults_of form) → IsRead P at_last at.1
@@ -206,4 +211,5 @@ module _ (P : Argument → Text → Type 0) (taken : (one : Argument) (text : Te
           by : (found : Option Row) → row_named at.1.id rows ≡ found → IfSome found (λ row. IsReadable P arguments row × (bytes_eq row.id at.1.id ≡ true))
               → IsRead P at_last at.1
           by (Some row) is can = read_from row (after ∙ ap (λ found. option_or found (default_row (built_rule at) (defaults_of at.1.form))) is) can.1 can.0
-          by None is can = left_out at.1.form (default is) required (after ∙ ap (λ found. option_or found (default_row (built_rule at) (defaults_of at.1.form))) is)
+          by None is can = left_out at.1.form (default is) required
+              (after ∙ ap (λ found. option_or found (default_row (built_rule at) (defaults_of at.1.form))) is)

@@ -1,12 +1,13 @@
 -- Words in which no fault is found are a command's name and words of the command, and these ask for something.
-use Rattle.dcv_command.proofs.Common.{◌≡◌, App, ℕ, suc, Bool, true, false, List, [], ◌∷◌, Option, None, Some, refl, sym, subst, codes, ap, ◌∙◌}
-use Rattle.dcv_command.proofs.Common.{find, map, length, ◌||◌, ◌&&◌, if◌then◌else◌, option_and_then, option_map, bytes_eq, ◌==◌, AllByRecursion, list_all, true≢false, both, arith}
-use Rattle.dcv_command.proofs.Common.{bytes_eq-Decides, Text, Row, Rule, Held, idle, fault_of, takes, accepts, has_row, is_false}
-use Rattle.dcv_command.proofs.Common.{short_of, long_of, finished, settled, nothing_held, walk, walk_from, rows_after, subcommand_met}
-use Rattle.dcv_command.proofs.Common.{after_flag, long_or_other, subcommand_or_other, trailing, check_fault, level_fault, settle_fault, step_passes, other_passes, turn_passes}
-use Rattle.dcv_command.proofs.Common.{program, request_of_subcommand, asked_in, asked_of, value_of, Command, commands, Argument, Asks, Form, WithDefault, Value}
+use Rattle.dcv_command.proofs.Common.{◌≡◌, App, ℕ, suc, Bool, true, false, List, [], ◌∷◌, Option, None, Some, refl, sym, subst, codes, ap, ◌∙◌, find}
+use Rattle.dcv_command.proofs.Common.{is_some, map, length, ◌||◌, ◌&&◌, if◌then◌else◌, option_and_then, option_map, bytes_eq, ◌==◌, AllByRecursion}
+use Rattle.dcv_command.proofs.Common.{list_all, true≢false, both, arith, bytes_eq-Decides, Text, Row, Rule, Held, idle, fault_of, takes, accepts}
+use Rattle.dcv_command.proofs.Common.{has_row, is_false, short_of, long_of, finished, settled, nothing_held, walk, walk_from, rows_after}
+use Rattle.dcv_command.proofs.Common.{subcommand_met, after_flag, long_or_other, subcommand_or_other, trailing, check_fault, level_fault}
+use Rattle.dcv_command.proofs.Common.{settle_fault, step_passes, other_passes, turn_passes, program, request_of_subcommand, asked_in, asked_of}
+use Rattle.dcv_command.proofs.Common.{value_of, Command, commands, Argument, Asks, Form, WithDefault, Value}
 use Rattle.std.proofs.Common.{zero}
-use Rattle.std.specs.Prelude.{IfSome, IsSome, nat_le, slice_get, not}
+use Rattle.std.specs.Prelude.{Contains, IfSome, IsSome, nat_le, slice_get, not}
 use Rattle.std.specs.Option.{option_or}
 use Rattle.std.specs.Str.{chars}
 use Rattle.std.proofs.ByRecursion.{All-append, All-map, All-push, All-weaker}
@@ -21,10 +22,11 @@ use Rattle.clap.specs.Takes.{entered_passes, flag_word_passes, flags_pass, long_
 use Rattle.clap.specs.declared.parser.matches.ValueSource.TheVariants.{CommandLine}
 use Rattle.clap.proofs.OnLiterals.{clap_on_literals}
 use Rattle.clap.proofs.WalkLemmas.{find-map}
-use Rattle.dcv_command.specs.Request.{IsTaken, Request, request_of}
+use Rattle.dcv_command.specs.Request.{IsTaken, request_of}
 use Rattle.dcv_command.specs.Laws.{AreACommands, TakenWordsAreACommands, TakenWordsAsk}
-use Rattle.dcv_command.proofs.Arguments.{AreLookedUp, IsLookedUp, Numbered, all_looked_up, built_rule, built_rules, built_shape, defaults_of, help, numbered, of_numbered, parser}
-use Rattle.dcv_command.proofs.Commands.{IsCommand, asked_below, built_command, each_command, fault_alone, faults_below, found_below, is_among, names, top}
+use Rattle.dcv_command.proofs.Arguments.{AreLookedUp, IsLookedUp, Numbered, built_rule, built_rules, built_shape, defaults_of, help, numbered, of_numbered}
+use Rattle.dcv_command.proofs.Arguments.{parser}
+use Rattle.dcv_command.proofs.Commands.{IsCommand, asked_below, built_command, each_among, fault_alone, faults_below, found_below, is_among, names, top}
 use Rattle.dcv_command.proofs.Lists.{if_found}
 use Rattle.dcv_command.proofs.Parses.{Keeps, is_none, no_kind, last_is_empty, level_keeps, program_agrees, use_same}
 use Rattle.dcv_command.proofs.Rows.{IsRead, IsReadable, OfDefault, is_read, readable, used_behind}
@@ -45,8 +47,10 @@ short_refused false rest passes = refl
 
 flags_refused : (most : ℕ) (flags word : Text) (character : Option ℕ) → slice_get (chars flags) 0 ≡ character
     → (flags_pass top.rules false most flags 0 nothing_held
-    && step_passes top 1 (after_flag top.rules idle word (bundle_met top.rules most flags 0 plain nothing_held).0 (bundle_met top.rules most flags 0 plain nothing_held).1).0
-    (after_flag top.rules idle word (bundle_met top.rules most flags 0 plain nothing_held).0 (bundle_met top.rules most flags 0 plain nothing_held).1).1) ≡ false
+    && step_passes top 1 (after_flag top.rules idle word (bundle_met top.rules most flags 0 plain nothing_held).0
+    (bundle_met top.rules most flags 0 plain nothing_held).1).0
+    (after_flag top.rules idle word (bundle_met top.rules most flags 0 plain nothing_held).0
+    (bundle_met top.rules most flags 0 plain nothing_held).1).1) ≡ false
 unfolding bundle_met flags_pass
 flags_refused zero flags word character is = refl
 flags_refused (suc most) flags word None is = rw is refl
@@ -83,6 +87,7 @@ dashes_refused (next ∷ rest) taken = true≢false (sym (walk_taken (codes "--"
 
 pub record Begins (words : List Text) : Type 0 where
   pub command : Command
+  pub among : Contains commands command
   pub is : IsCommand command
   pub rest : List Text
   pub same : words ≡ command.name ∷ rest
@@ -93,7 +98,8 @@ module _ (word : Text) (rest : List Text) (taken : takes program (word ∷ rest)
 
   met_by : (found : Option Command) → find is_named commands ≡ found
       → subcommand_met names idle word
-      ≡ option_map (λ label. label.0) (option_map label_of (option_or (option_map built_command found) (if bytes_eq (codes "help") word || false then Some (built_leaf help_shape) else None)))
+      ≡ option_map (λ label. label.0) (option_map label_of (option_or (option_map built_command found)
+      (if bytes_eq (codes "help") word || false then Some (built_leaf help_shape) else None)))
   met_by found is =
       ap (option_map (λ label. label.0))
       (sym (find-map (answers_to word) label_of (built program).subs)
@@ -101,7 +107,8 @@ module _ (word : Text) (rest : List Text) (taken : takes program (word ∷ rest)
       ∙ ap (λ found. option_or found (if bytes_eq (codes "help") word || false then Some (built_leaf help_shape) else None))
       (sym (find-map (λ shape. answers_to word (label_of shape)) built_command commands) ∙ ap (option_map built_command) is)))
 
-  no_other : (is_help dashes : Bool) → find is_named commands ≡ None → (bytes_eq (codes "help") word || false) ≡ is_help → bytes_eq word (codes "--") ≡ dashes → ⊥
+  no_other : (is_help dashes : Bool) → find is_named commands ≡ None → (bytes_eq (codes "help") word || false) ≡ is_help
+      → bytes_eq word (codes "--") ≡ dashes → ⊥
   unfolding walk_passes
   no_other true dashes none named is =
       help_refused rest (subst (λ word. takes program (word ∷ rest) ≡ true) (sym ((bytes_eq-Decides (codes "help") word).0 (sym (or-false _) ∙ named))) taken)
@@ -111,16 +118,19 @@ module _ (word : Text) (rest : List Text) (taken : takes program (word ∷ rest)
       let met : subcommand_met names idle word ≡ None = met_by None none
       ∙ ap (λ named. option_map (λ (label : Text × List Text). label.0) (option_map label_of (if named then Some (built_leaf help_shape) else None))) named in
       let passes : first_passes word None (bytes_eq word (codes "--")) ≡ true = subst (λ met. (other_passes top met word nothing_held
-      && step_passes top 1 (subcommand_or_other top.rules met idle 1 word nothing_held).0 (subcommand_or_other top.rules met idle 1 word nothing_held).1) ≡ true) met
+      && step_passes top 1 (subcommand_or_other top.rules met idle 1 word nothing_held).0
+      (subcommand_or_other top.rules met idle 1 word nothing_held).1) ≡ true) met
       (both (turn_passes top names (walk_from nothing_held) word) _ (walk_taken (word ∷ rest) taken)).0 in
       true≢false (sym passes ∙ ap (first_passes word None) is ∙ word_refused word (long_of word) (short_of word) refl)
 
   begins_with : Begins (word ∷ rest)
-  begins_with = by (find is_named commands) refl (if_found IsCommand is_named commands each_command)
+  begins_with = by (find is_named commands) refl (if_found (Contains commands) is_named commands each_among)
     where
-      by : (found : Option Command) → find is_named commands ≡ found → IfSome found (λ command. IsCommand command × (is_named command ≡ true)) → Begins (word ∷ rest)
+      by : (found : Option Command) → find is_named commands ≡ found
+          → IfSome found (λ command. Contains commands command × (is_named command ≡ true)) → Begins (word ∷ rest)
       by (Some command) is named =
-          record { command = command; is = named.0; rest = rest; same = ap (λ word. word ∷ rest) (sym ((bytes_eq-Decides command.name word).0 (sym (or-false _) ∙ named.1))) }
+          let same = (bytes_eq-Decides command.name word).0 (sym (or-false (bytes_eq command.name word)) ∙ named.1) in
+          record { command = command; among = named.0; is = is_among command named.0; rest = rest; same = ap (λ word. word ∷ rest) (sym same) }
       by None is named = absurd (no_other _ _ is refl refl)
 
 pub begins : (words : List Text) → takes program words ≡ true → Begins words
@@ -142,7 +152,8 @@ default_is_accepted _ value passes = tt
 some_request : (left : List Argument) (asks : Asks left) (rows : List Row) → AllByRecursion (IsRead Accepts rows) left → IsSome (asked_in left asks rows)
 some_request [] request rows all = refl
 some_request (one ∷ rest) asks rows (is, others) =
-    subst IsSome (sym (ap (option_and_then (λ given. asked_in rest (asks given) rows)) is.value)) (some_request rest (asks (value_of one.value is.text)) rows others)
+    subst IsSome (sym (ap (option_and_then (λ given. asked_in rest (asks given) rows)) is.value))
+    (some_request rest (asks (value_of one.value is.text)) rows others)
 
 module _ (arguments : List Argument) (looked_up : AreLookedUp arguments) where
   abbrev Kept : List Row → Type 0
@@ -159,7 +170,8 @@ module _ (arguments : List Argument) (looked_up : AreLookedUp arguments) where
           (All-push (IsReadable Accepts arguments) rows _ kept
           (readable Accepts (λ one text is. is) arguments at is text CommandLine (both (accepts false (parser at.1.value) text) true fits.1).0))
       by (text ∷ other ∷ more) passes =
-          absurd (omega (arith, leb-true (suc (suc (length more))) 1 (both (nat_le (suc (suc (length more))) 1) _ (both (nat_le 1 (suc (suc (length more)))) _ passes).1).0))
+          let few = both (nat_le (suc (suc (length more))) 1) _ (both (nat_le 1 (suc (suc (length more)))) _ passes).1 in
+          absurd (omega (arith, leb-true (suc (suc (length more))) 1 few.0))
 
   each_keeps : AllByRecursion (Keeps false Kept) (built_rules arguments)
   each_keeps =
@@ -199,7 +211,7 @@ taken_words_ask words taken =
     subst (λ words. IsSome (request_of words)) (sym begun.same)
     (subst IsSome (sym (ap request_of_subcommand (found_below begun.command begun.is begun.rest)
     ∙ asked_below begun.command begun.is begun.rest (rows_after (built_command begun.command).rules [] begun.rest)))
-    (words_ask begun.command.arguments (all_looked_up begun.command.arguments begun.is.sound) begun.command.name begun.command.asks begun.rest
+    (words_ask begun.command.arguments begun.is.looked_up begun.command.name begun.command.asks begun.rest
     (sym (faults_below begun.command begun.is begun.rest) ∙ ap (fault_of program) (sym begun.same) ∙ taken)))
 
 pub taken_words_are_a_commands : TakenWordsAreACommands
@@ -210,21 +222,19 @@ taken_words_are_a_commands words = ((taken_passes words, λ passes. no_kind (fau
         let begun = begins words (taken_passes words taken) in
         record {
           command = begun.command;
-          among = begun.is.among;
+          among = begun.among;
           rest = begun.rest;
           begin = begun.same;
           taken = sym (fault_alone begun.command begun.is begun.rest) ∙ ap (fault_of program) (sym begun.same) ∙ taken;
-          asked = ap request_of begun.same ∙ ap request_of_subcommand (found_below begun.command begun.is begun.rest) ∙ asked_below begun.command begun.is begun.rest _
+          asked = ap request_of begun.same ∙ ap request_of_subcommand (found_below begun.command begun.is begun.rest)
+              ∙ asked_below begun.command begun.is begun.rest _
               ∙ ap (λ (app : App). asked_of begun.command (rows_after app.top.rules (names_of app) begun.rest)) (sym begun.is.alone_is);
         }
 
     from : AreACommands words → IsTaken words
     from are = ap (fault_of program) are.begin ∙ fault_alone are.command (is_among are.command are.among) are.rest ∙ are.taken
 
-it_is_some : (asked : Option Request) → IsSome asked → None ≡ asked → ⊥
-it_is_some None some none = true≢false (sym some)
-it_is_some (Some request) some none = let wrong : None ≡ Some request = none in cc
-
 -- matches of taken words ask for something
-pub matches_ask : (words : List Text) (found : Option (Text × List Row)) → IsTaken words → found ≡ subcommand_of program words → None ≡ request_of_subcommand found → ⊥
-matches_ask words found taken same none = it_is_some (request_of words) (taken_words_ask words taken) (none ∙ ap request_of_subcommand same)
+pub matches_ask : (words : List Text) (found : Option (Text × List Row)) → IsTaken words → found ≡ subcommand_of program words
+    → None ≡ request_of_subcommand found → ⊥
+matches_ask words found taken same none = true≢false (sym (taken_words_ask words taken) ∙ ap is_some (sym (none ∙ ap request_of_subcommand same)))

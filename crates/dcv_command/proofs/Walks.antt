@@ -21,7 +21,7 @@ use Rattle.dcv_command.specs.Request.{Request}
 use Rattle.dcv_command.proofs.Commands.{IsCommand, asked_below, built_command, faults_below, found_below}
 use Rattle.dcv_command.proofs.NumberTexts.{HasNoDash}
 use Rattle.dcv_command.proofs.TakenWords.{taken_passes}
-use Rattle.dcv_command.proofs.Arguments.{IsLookedUp, Numbered, built_rule, built_rules, built_shape, flag, parser}
+use Rattle.dcv_command.proofs.Arguments.{IsLookedUp, Numbered, built_rule, built_rules, built_shape, flag, of_operand, of_option, parser}
 use Rattle.dcv_command.proofs.Rows.{given_row, used_behind}
 
 -- a walk that is not stopped, and reads flags
@@ -84,7 +84,8 @@ ask_for command is words end request runs none asked =
       taken = taken;
       passes = taken_passes (command.name ∷ words) taken;
       asked = ap request_of_subcommand (found_below command is words)
-          ∙ ap (λ (w : Walk). request_in command.name (finished shape.rules w.held)) ended ∙ asked_below command is words (finished shape.rules end.held) ∙ asked;
+          ∙ ap (λ (w : Walk). request_in command.name (finished shape.rules w.held)) ended
+          ∙ asked_below command is words (finished shape.rules end.held) ∙ asked;
     }
   where
     shape : Shape
@@ -96,7 +97,8 @@ ask_for command is words end request runs none asked =
     taken : fault_of program (command.name ∷ words) ≡ []
     taken =
         faults_below command is words
-        ∙ ap (λ kinds. or_else kinds (faults_at_end shape (walk shape.rules [] nothing_held words).held)) (no_fault_on shape end (walk_from nothing_held) words runs)
+        ∙ ap (λ kinds. or_else kinds (faults_at_end shape (walk shape.rules [] nothing_held words).held))
+        (no_fault_on shape end (walk_from nothing_held) words runs)
         ∙ ap (λ (w : Walk). faults_at_end shape w.held) ended ∙ none
 
 -- ---- operands and options
@@ -145,7 +147,8 @@ module _ (arguments : List Argument) (values : Values) (held : Held) (done : Lis
         settles = ap (λ found. at_rest (used_by_id found (text ∷ []) rows)) is.by_id
             ∙ ap at_rest (used_behind at text rows none ∙ sym (map-append (given_by values) done (at.1 ∷ [])));
         no_fault = ap (λ found. option_map_or (λ rule. use_fault false rule (text ∷ []) rows) found []) is.by_id
-            ∙ ap₂ (λ has fits. or_else (if has && true then ArgumentConflict ∷ [] else []) (or_else (if fits then [] else refused_kind (parser at.1.value) ∷ []) []))
+            ∙ ap₂ (λ has fits. or_else (if has && true then ArgumentConflict ∷ [] else [])
+            (or_else (if fits then [] else refused_kind (parser at.1.value) ∷ []) []))
             none fits;
       }
 
@@ -159,9 +162,9 @@ module _ (arguments : List Argument) (values : Values) (held : Held) (done : Lis
     operand_goes operand few =
         let several = and-false (is_pending (built_rule at) held.pending) in
         plain_goes shape held idle at.0 text (going (holding rows at.1.id text) idle (at.0 + 1)) no_dash
-        (ap (λ found. option_map_or (λ rule. positional_fault rules false rule held) found (stray_fault shape)) (is.by_index operand)
+        (ap (λ found. option_map_or (λ rule. positional_fault rules false rule held) found (stray_fault shape)) (of_operand _ at.1.form operand is.by_index)
         ∙ ap (λ several. if several then [] else settle_fault rules false held) several ∙ before.no_fault)
-        (ap (λ found. to_positional rules found text (going held idle at.0) held) (is.by_index operand)
+        (ap (λ found. to_positional rules found text (going held idle at.0) held) (of_operand _ at.1.form operand is.by_index)
         ∙ ap (λ several. going (pushed at.1.id text (if several then held else settled rules held)) idle (min (at.0 + 1) usize_max)) several
         ∙ ap (λ there. going (pushed at.1.id text there) idle (min (at.0 + 1) usize_max)) before.settles
         ∙ ap (going (holding rows at.1.id text) idle) (min-eq_left (omega arith)))
@@ -173,22 +176,27 @@ module _ (arguments : List Argument) (values : Values) (held : Held) (done : Lis
     named_met found = after_flag rules idle (flag at.1.id) (long_met rules found None held).0 (long_met rules found None held).1
 
     -- the flag of its option, and the word after that
-    pub flag_goes : (place : ℕ) → IsOption at.1.form → Goes shape (going held idle place) (flag at.1.id) (going (waiting_for rows at.1.id) (option at.1.id) place)
+    pub flag_goes : (place : ℕ) → IsOption at.1.form
+        → Goes shape (going held idle place) (flag at.1.id) (going (waiting_for rows at.1.id) (option at.1.id) place)
     unfolding walked
     flag_goes place is_option =
         record {
           no_fault = ap₂ (λ dashes long. or_else (if dashes then [] else flag_word_fault rules false long (flag at.1.id) held)
               (step_fault shape place (flag_met place dashes long).0 (flag_met place dashes long).1)) is.no_dashes is.is_flag
-              ∙ ap (λ found. or_else (long_fault rules false found None held) (step_fault shape place (named_met found).0 (named_met found).1)) (is.by_long is_option)
+              ∙ ap (λ found. or_else (long_fault rules false found None held)
+              (step_fault shape place (named_met found).0 (named_met found).1)) (of_option _ at.1.form is_option is.by_long)
               ∙ ap (λ kinds. or_else kinds []) before.no_fault;
-          goes = ap₂ (λ dashes long. after_step rules (flag at.1.id) (going held idle place) (flag_met place dashes long).0 (flag_met place dashes long).1) is.no_dashes is.is_flag
-              ∙ ap (λ found. after_step rules (flag at.1.id) (going held idle place) (named_met found).0 (named_met found).1) (is.by_long is_option)
+          goes = ap₂ (λ dashes long. after_step rules (flag at.1.id) (going held idle place) (flag_met place dashes long).0
+              (flag_met place dashes long).1) is.no_dashes is.is_flag
+              ∙ ap (λ found. after_step rules (flag at.1.id) (going held idle place) (named_met found).0 (named_met found).1)
+              (of_option _ at.1.form is_option is.by_long)
               ∙ ap (λ there. going (record there { pending = Some (at.1.id, []) }) (option at.1.id) place) before.settles;
         }
 
     pub value_goes : (place : ℕ) → Goes shape (going (waiting_for rows at.1.id) (option at.1.id) place) text (going (holding rows at.1.id text) idle place)
     value_goes place =
         plain_goes shape (waiting_for rows at.1.id) (option at.1.id) place text (going (holding rows at.1.id text) idle place) no_dash refl
-        (ap (λ found. going (option_word found at.1.id text (waiting_for rows at.1.id)).0 (option_word found at.1.id text (waiting_for rows at.1.id)).1 place) is.by_id
+        (ap (λ found. going (option_word found at.1.id text (waiting_for rows at.1.id)).0
+        (option_word found at.1.id text (waiting_for rows at.1.id)).1 place) is.by_id
         ∙ ap (λ same. going (holding rows at.1.id text) (if nat_lt (if same then 1 else 0) 1 then option at.1.id else idle) place)
         ((bytes_eq-Decides at.1.id at.1.id).1 refl))

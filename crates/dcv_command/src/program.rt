@@ -194,14 +194,20 @@ pub(crate) fn program<'a>(alloc: Global) -> Result<Command<'a>, AllocError>
 fn bare_program<'a>(alloc: Global) -> Result<Command<'a>, AllocError>
     ensures { IfOk result (λ command. app_of command ≡ bare_app) }
 {
-    let named = Command::new(alloc, "dcvalid").bin_name("dcvalid")?;
     Ok(
-        named
+        named(alloc)?
             .about(ABOUT)
             .after_help(EXAMPLE_AND_STATUS)
             .no_binary_name(true)
             .subcommand_required(true),
     )
+}
+
+// A command with no words yet, which usage calls by its name.
+fn named<'a>(alloc: Global) -> Result<Command<'a>, AllocError>
+    ensures { IfOk result (λ command. app_of command ≡ new_app (codes "dcvalid")) }
+{
+    Command::new(alloc, "dcvalid").bin_name("dcvalid")
 }
 
 // The subcommand of an entry.

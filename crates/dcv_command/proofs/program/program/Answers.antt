@@ -13,5 +13,6 @@ pub loop-entry-preserved : goal.loop-entry-preserved
 loop-entry-preserved c =
     let app = c.in_ok-command-2.ensures.shape c.in_ok-subcommand.ensures.local
     ∙ ap (λ (app : App). with_subcommand (app_of c.loop-entry.command) app.top) c.in_ok-subcommand.ensures.app in
-    one_more (λ app entry. with_subcommand app (shape_seen entry)) c.commands-entry-items.result.now c.loop-entry.entry-index _ (app_of c.loop-entry.command) _ _
+    one_more (λ app entry. with_subcommand app (shape_seen entry)) c.commands-entry-items.result.now c.loop-entry.entry-index _
+    (app_of c.loop-entry.command) _ _
     c.loop-entry-test.true app c.loop-entry.invariant

@@ -23,6 +23,7 @@ loop-argument-preserved c =
     record {
       left = one_more (λ app argument. with_rule app (rule_of (argument_seen argument))) c.args.entry.now.arguments.now c.loop-argument.argument-index _
           (app_of old) _ _ c.loop-argument-test.true app c.loop-argument.invariant.left;
-      local = c.in_ok-command.ensures.globals ∙ ap (λ global. (fields_of old).has_globals || global) c.arg_of.ensures.local ∙ or-false (fields_of old).has_globals
+      local = c.in_ok-command.ensures.globals ∙ ap (λ global. (fields_of old).has_globals || global) c.arg_of.ensures.local
+          ∙ or-false (fields_of old).has_globals
           ∙ c.loop-argument.invariant.local;
     }

@@ -13,7 +13,8 @@ some_kind [] error (inr among) other is = among
 some_kind (kind ∷ kinds) error has other is = cc
 
 module _ (app : App) (same : app ≡ program) (words : List Text) where
-  fails_by : {T : Type 0} (result : Result T Error) → (is_simple_and_free app ≡ true → FailsBy (fault_of app words) result) → FailsBy (fault_of program words) result
+  fails_by : {T : Type 0} (result : Result T Error) → (is_simple_and_free app ≡ true → FailsBy (fault_of app words) result)
+      → FailsBy (fault_of program words) result
   fails_by result kinds = subst (λ one. is_simple_and_free one ≡ true → FailsBy (fault_of one words) result) same kinds refl
 
   found : (matches : ArgMatches) → HasMatchesOf app words matches → subcommand_rows_of matches ≡ subcommand_of program words

@@ -40,7 +40,8 @@ module _ (least most : ℕ) (fits : most < 2 ^ 32) where
 
   kept_is : (f : Found) (id : Text) (read : Option ℕ) → (one_text f id ≡ None → read ≡ None)
       → ((text : List ℕ) → one_text f id ≡ Some text → ReadsOne Reads text read) → kept_of least most read ≡ number_in least most id (rows_of f)
-  kept_is f id read none value = subst (λ text. kept_of least most read ≡ option_and_then (number_of least most) text) (one_text-rows f id) (by (one_text f id) refl)
+  kept_is f id read none value = subst (λ text. kept_of least most read ≡ option_and_then (number_of least most) text) (one_text-rows f id)
+      (by (one_text f id) refl)
     where
       by : (text : Option (List ℕ)) → one_text f id ≡ text → kept_of least most read ≡ option_and_then (number_of least most) text
       by None here = ap (kept_of least most) (none here)
@@ -49,13 +50,15 @@ module _ (least most : ℕ) (fits : most < 2 ^ 32) where
 pub returns-in_err-number : goal.returns-in_err-number
 returns-in_err-number c =
     c.from_residual.ensures ∙ sym (ap (kept_of c.args.least c.args.most) c.in_err-number.was)
-    ∙ kept_is c.args.least c.args.most (omega (arith, c.ranges.most)) (found_of c.args.matches.now) c.args.id.now c.get_one.result c.get_one.ensures.none c.get_one.ensures.value
+    ∙ kept_is c.args.least c.args.most (omega (arith, c.ranges.most))
+    (found_of c.args.matches.now) c.args.id.now c.get_one.result c.get_one.ensures.none c.get_one.ensures.value
 
 pub returns-then-number-most : goal.returns-then-number-most
 returns-then-number-most c =
     sym (ap (kept_of c.args.least c.args.most) c.in_ok-number.was
     ∙ ap₂ (λ low high. if low && high then Some c.in_ok-number.number else None) (le-leb _ _ c.if-least-number.true) (le-leb _ _ c.if-number-most.true))
-    ∙ kept_is c.args.least c.args.most (omega (arith, c.ranges.most)) (found_of c.args.matches.now) c.args.id.now c.get_one.result c.get_one.ensures.none c.get_one.ensures.value
+    ∙ kept_is c.args.least c.args.most (omega (arith, c.ranges.most))
+    (found_of c.args.matches.now) c.args.id.now c.get_one.result c.get_one.ensures.none c.get_one.ensures.value
 
 pub returns-else-least-number : goal.returns-else-least-number
 returns-else-least-number c =
@@ -63,4 +66,5 @@ returns-else-least-number c =
     (λ is. let parts = both (nat_le c.args.least c.in_ok-number.number) (nat_le c.in_ok-number.number c.args.most) is in
     omega (arith, c.else-least-number.either, leb-true c.args.least c.in_ok-number.number parts.0, leb-true c.in_ok-number.number c.args.most parts.1)) in
     sym (ap (kept_of c.args.least c.args.most) c.in_ok-number.was ∙ ap (λ kept. if kept then Some c.in_ok-number.number else None) beyond)
-    ∙ kept_is c.args.least c.args.most (omega (arith, c.ranges.most)) (found_of c.args.matches.now) c.args.id.now c.get_one.result c.get_one.ensures.none c.get_one.ensures.value
+    ∙ kept_is c.args.least c.args.most (omega (arith, c.ranges.most))
+    (found_of c.args.matches.now) c.args.id.now c.get_one.result c.get_one.ensures.none c.get_one.ensures.value
