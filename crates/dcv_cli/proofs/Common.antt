@@ -28,7 +28,7 @@ pub use Rattle.dcv_cli.specs.Comparison.{Declared, IsCompared, IsDifference, Ove
 pub use Rattle.dcv_cli.specs.Conversion.{IsConverted, as_version}
 pub use Rattle.dcv_cli.specs.Ending.{EndsBy, HasInputCause, NoneRises, Tells}
 pub use Rattle.dcv_cli.specs.FormulaFile.{Faulty, HasNoCore, IsFormulaFile, IsRefused, IsSentence, OnText, Read, Refused, TooLong}
-pub use Rattle.dcv_cli.specs.Held.{ForHeld, IsHeldSuch, IsHeldText, OnHeld, Texts}
+pub use Rattle.dcv_cli.specs.Held.{ForHeld, OfHeldText, IsHeldText, OnHeld, Texts}
 pub use Rattle.dcv_cli.specs.ObserverFile.{IsFaultIn, IsObserverText, IsRefusedObserver, OnObserver}
 pub use Rattle.dcv_cli.specs.Outcome.{Agrees, IsExplained, Outcome, refused}
 pub use Rattle.dcv_cli.specs.Outside.{Outside, Stream, output_of, with_output}
