@@ -28,13 +28,13 @@ pub use Rattle.dcv_cli.specs.Comparison.{Declared, IsCompared, IsDifference, Ove
 pub use Rattle.dcv_cli.specs.Conversion.{IsConverted, as_version}
 pub use Rattle.dcv_cli.specs.Ending.{EndsBy, HasInputCause, NoneRises, Tells}
 pub use Rattle.dcv_cli.specs.FormulaFile.{Faulty, HasNoCore, IsFormulaFile, IsRefused, IsSentence, OnText, Read, Refused, TooLong}
-pub use Rattle.dcv_cli.specs.Held.{ForHeld, IsHeldSuch, IsHeldText, OnHeld, Texts}
+pub use Rattle.dcv_cli.specs.Held.{ForHeld, OfHeldText, IsHeldText, OnHeld, Texts}
 pub use Rattle.dcv_cli.specs.ObserverFile.{IsFaultIn, IsObserverText, IsRefusedObserver, OnObserver}
 pub use Rattle.dcv_cli.specs.Outcome.{IsExplained, Outcome, refused}
 pub use Rattle.dcv_cli.specs.Outside.{Outside, Stream, output_of, with_output}
 pub use Rattle.dcv_cli.specs.Performed.{Answers, LeavesFor, Performs, Takes, ending}
 pub use Rattle.dcv_cli.specs.ReadFile.{IsBuilt, IsRead, Reports}
-pub use Rattle.dcv_cli.specs.Refusal.{excess_word_of, is_of_text, is_open, is_read, message_of, most_automaton_bytes, most_bytes, most_observer_bytes, only, refusal_of_observer, refusal_of_reading, refusal_of_scope, status_of}
+pub use Rattle.dcv_cli.specs.Refusal.{is_of_text, is_open, is_read, message_of, most_automaton_bytes, most_bytes, most_observer_bytes, only, refusal_of_observer, refusal_of_reading, refusal_of_scope, status_of}
 pub use Rattle.dcv_cli.specs.Replayed.{IsReplay, fault_of_trace, message_of_trace, status_of_trace}
 pub use Rattle.dcv_cli.specs.Replaying.{FulfilsTrace, LeavesOfTrace, LeavesTrace, OfOpen, OfRead}
 pub use Rattle.dcv_cli.specs.Report.{IsReport, Says, SaysAll}

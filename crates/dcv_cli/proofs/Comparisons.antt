@@ -3,11 +3,11 @@ use Rattle.dcv_cli.proofs.Common.{◌≡◌, ◌≢◌, ℕ, ◌+◌, Bool, true
 use Rattle.dcv_cli.proofs.Common.{codes, IsTrue, ◌↔◌, not, is_some, bytes_eq, bytes_eq-Decides, length-map, true≢false, Asks, Disk, held_of}
 use Rattle.dcv_cli.proofs.Common.{asks_in_turn, Puts, puts_both, Word, PlainFile, Name, models, line, Language, IsLeastOf, TooManyStates}
 use Rattle.dcv_cli.proofs.Common.{TooManyNodes, Limits, IsAutomatonOf, IsWithinBudget, Built, IsAuto, raw_accepts, difference, letters_of, IsIncluded}
-use Rattle.dcv_cli.proofs.Common.{TooMany, Least, NoneWhereIncluded, texts_of, OverBudget, WithinBudget, NamesFirstOver, steps_of_file}
-use Rattle.dcv_cli.proofs.Common.{comparison_text, compared, have_same_texts, OverProduct, WithinProduct, IsCompared, Undeclared, Declared}
+use Rattle.dcv_cli.proofs.Common.{TooMany, Least, NoneWhereIncluded, texts_of, WithinBudget, NamesFirstOver, steps_of_file}
+use Rattle.dcv_cli.proofs.Common.{comparison_text, compared, have_same_texts, OverProduct, WithinProduct, IsCompared, Declared}
 use Rattle.dcv_cli.proofs.Common.{IsBuilt, IsFormulaFile, OnText, Refused, Read as ReadFile, Texts, OnHeld, ForHeld, IsHeldText, Fulfils}
-use Rattle.dcv_cli.proofs.Common.{FulfilsOver, Implies, OnTrue, IsSomeAnd, Outcome, IsExplained, refused, Outside, LeavesFor, is_answer}
-use Rattle.dcv_cli.proofs.Common.{status_of_least, States, Nodes, Refusal, Formula, Budget, Product, Memory, Declarations, Which, Only}
+use Rattle.dcv_cli.proofs.Common.{is_determined, status_of, FulfilsOver, Implies, OnTrue, IsSomeAnd, Outcome, IsExplained, refused, Outside, LeavesFor, is_answer}
+use Rattle.dcv_cli.proofs.Common.{status_of_least, States, Nodes, Refusal, Product, Which, Only}
 use Rattle.dcv_cli.proofs.Common.{First, Second}
 use Rattle.clap.proofs.WalkLemmas.{both}
 use Rattle.dcv_io.specs.Putting.{Put}
@@ -17,9 +17,10 @@ use Rattle.dcv_implies.specs.Comparison.{IsProductWithin, IsProductOver, Answer,
 use Rattle.dcv_implies.specs.Laws.{AnswerOfAutomata}
 use Rattle.dcv_implies.specs.declared.faults.OutsideFault.{OutsideFault}
 use Rattle.dcv_implies.specs.declared.faults.OutsideFault.TheVariants as outside
-use Rattle.dcv_cli.specs.Comparison.{LeavesComparison, OfFirst, OfSecond}
-use Rattle.dcv_cli.proofs.ThreeEnds.{for_any, for_text}
 use Rattle.dcv_io.specs.Disk.{WhereTold, ReadsAtMost}
+use Rattle.dcv_cli.specs.Comparison.{LeavesComparison, OfSecond}
+use Rattle.dcv_cli.proofs.Outcomes.{explains_over}
+use Rattle.dcv_cli.proofs.ThreeEnds.{for_text, on_true_weaker}
 use Rattle.dcv_cli.proofs.TwoFiles.{later_held, some_same}
 use Rattle.dcv_cli.specs.Performed.{LeavesOne}
 use Rattle.dcv_cli.specs.Refusal.{most_bytes, refusal_of_outside}
@@ -80,16 +81,13 @@ module _ (limits : Limits) (one other : PlainFile) where
   -- the first is over the limits
   pub explains_first_over : (refusal : Refusal) → texts_of one.variables ≡ texts_of other.variables → NamesFirstOver (steps_of_file one) limits refusal
       → IsExplained (IsCompared limits one other) First refusal
-  explains_first_over (Budget over) same is = Declared same (OverBudget over is refl)
-  explains_first_over Memory same is = tt
-  explains_first_over _ same is = absurd is
+  explains_first_over refusal same is = on_true_weaker (is_determined (status_of refusal)) (Declared same) (explains_over limits First _ one refusal is)
 
   -- the first is not, and the second is
   pub explains_second_over : (refusal : Refusal) → texts_of one.variables ≡ texts_of other.variables → IsWithinBudget (steps_of_file one) limits
       → NamesFirstOver (steps_of_file other) limits refusal → IsExplained (IsCompared limits one other) Second refusal
-  explains_second_over (Budget over) same within is = Declared same (WithinBudget within (OverBudget over is refl))
-  explains_second_over Memory same within is = tt
-  explains_second_over _ same within is = absurd is
+  explains_second_over refusal same within is =
+      on_true_weaker (is_determined (status_of refusal)) (λ right. Declared same (WithinBudget within right)) (explains_over limits Second _ other refusal is)
 
   module _ (move : AnswerOfAutomata) (none : NoneWhereIncluded) (first second : Built) (first_auto : IsAuto first.auto) (second_auto : IsAuto second.auto)
       (same : texts_of one.variables ≡ texts_of other.variables) (of_one : IsBuilt one limits first) (of_other : IsBuilt other limits second) where
@@ -125,9 +123,6 @@ module _ (limits : Limits) (one other : PlainFile) where
     explains_product outside.Memory states nodes = tt
 
 -- ---- the second file
-
-pub undeclared : (limits : Limits) (one other : PlainFile) → texts_of one.variables ≢ texts_of other.variables → IsCompared limits one other (refused (Formula Declarations) Only)
-undeclared limits one other differ = Undeclared differ refl
 
 -- what is right where it is determined, is right for each
 pub on_true_each : (b : Bool) {X Y : Type 0} (P : Y → X → Type 0) (Q : X → Type 0) → ((y : Y) (x : X) → P y x → OnTrue b (Q x)) → OnTrue b ((y : Y) (x : X) → P y x → Q x)
@@ -175,9 +170,3 @@ leaves_both first second text limits file before from after bytes asked same the
     let both = asks_in_turn before.asked from.asked after.asked (first ∷ []) (second ∷ []) asked left.holds.asked in
     for_text before.told first text (λ held. LeavesComparison first second held before after bytes) there
     (λ held here. OfSecond both (reads_from before.told from.told after.told second (most_bytes + 1) same left.holds.read) (record { text = text; there = here; file = file; is = is }) left.holds.none)
-
--- nor where the first did
-pub leaves_first : (first second : List ℕ) (limits : Limits) (before after : Outside) → Asks (first ∷ []) before.asked after.asked
-    → WhereTold (ReadsAtMost first (most_bytes + 1)) before.told after.told → LeavesFor (Implies first second limits) before after []
-leaves_first first second limits before after asked read =
-    for_any before.told (λ held. LeavesComparison first second held before after []) (λ held. OfFirst asked read refl)

@@ -17,7 +17,6 @@ pub mod OneReplay
 pub mod OneRequest
 pub mod OneSynthesis
 pub mod Outcomes
-pub mod Pieces
 pub mod Printed
 pub mod PrintedLengths
 pub mod Promises

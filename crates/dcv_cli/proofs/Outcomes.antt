@@ -2,7 +2,7 @@
 use Rattle.dcv_cli.proofs.Common.{◌≡◌, ◌≢◌, ℕ, ◌≤◌, List, [], length, Option, Some, Err, refl, ap, subst, OnTrue, Bool, true}
 use Rattle.dcv_cli.proofs.Common.{false, IsTrue, is_none, if◌then◌else◌, Disk, PlainFile, models, Language, Verdict, Name, ReadFault}
 use Rattle.dcv_cli.proofs.Common.{ReadMemory, fault_of_file, ScopeFault, ScopeMemory, Refusal, Budget, Memory, PlainStep, Limits}
-use Rattle.dcv_cli.proofs.Common.{IsAutomatonOf, ReportValue, Texts, OnHeld, ForHeld, IsHeldText, IsHeldSuch, IsBuilt, Built, Reports, steps_of_file}
+use Rattle.dcv_cli.proofs.Common.{IsAutomatonOf, ReportValue, Texts, OnHeld, ForHeld, IsHeldText, OfHeldText, IsBuilt, Built, Reports, steps_of_file}
 use Rattle.dcv_cli.proofs.Common.{NamesFirstOver, IsBudgeted, OverBudget, WithinBudget, Says, IsReport, IsRefused, Faulty, HasNoCore}
 use Rattle.dcv_cli.proofs.Common.{IsSentence, IsFormulaFile, OnText, Refused, Read, Outcome, IsExplained, most_bytes, status_of}
 use Rattle.dcv_cli.proofs.Common.{is_of_text, refusal_of_reading, refusal_of_scope, Which, Answers, Stream, only, verdict_text, Check, core_of_file}
@@ -88,7 +88,7 @@ answer_of_verdict verdict = by (is_none verdict.counterexample)
 
 module _ (told : Option Disk) (name : List ℕ) (which : Which) where
   -- so it is right, whatever is right for a formula file
-  pub explains_file : (RightFor : Texts → PlainFile → Outcome → Type 0) (refusal : Refusal) → OnTrue (is_determined (status_of refusal)) (IsHeldSuch told name (λ text. IsRefused text refusal))
+  pub explains_file : (RightFor : Texts → PlainFile → Outcome → Type 0) (refusal : Refusal) → OnTrue (is_determined (status_of refusal)) (OfHeldText told name (λ text. IsRefused text refusal))
       → IsExplained (λ outcome. ForHeld told (λ held. OnHeld (held 0) name (λ text. OnText text which (RightFor held)) outcome)) which refusal
   explains_file RightFor refusal refused_so =
       explains_first told name (λ held text. OnText text which (RightFor held)) which refusal (λ text. IsRefused text refusal) (λ held text is. Refused refusal is refl) refused_so

@@ -1,16 +1,14 @@
 -- The observer of a replay, and what is right for the trace after it.
 use Rattle.dcv_cli.proofs.Common.{◌≡◌, ◌≢◌, ◌≤◌, ◌+◌, ℕ, List, [], ◌∷◌, length, Option, Some, refl, sym, subst, ◌∙◌}
 use Rattle.dcv_cli.proofs.Common.{OnTrue, Asks, Disk, held_of, asks_in_turn, Replay, Subset, InLustre, InC, ObsFault, Observer}
-use Rattle.dcv_cli.proofs.Common.{KeepsTheRules, Refusal, Only, Texts, OnHeld, IsHeldSuch, IsHeldText, IsFaultIn, IsRefusedObserver, IsObserverText}
-use Rattle.dcv_cli.proofs.Common.{OnObserver, Outcome, IsExplained, Outside, LeavesFor, most_observer_bytes, refusal_of_observer}
+use Rattle.dcv_cli.proofs.Common.{KeepsTheRules, Texts, OnHeld, IsHeldText, IsFaultIn, IsRefusedObserver, IsObserverText}
+use Rattle.dcv_cli.proofs.Common.{Outcome, Outside, LeavesFor, most_observer_bytes, refusal_of_observer}
 use Rattle.dcv_cli.proofs.Common.{status_of, IsReplay, FulfilsTrace, LeavesTrace, LeavesOfTrace, OfOpen, OfRead, Fulfils, FulfilsOver}
 use Rattle.dcv_cli.proofs.Common.{is_determined}
 use Rattle.dcv_observer.specs.declared.fault.ObsFault.TheVariants.{Memory}
 use Rattle.dcv_replay.specs.Observer.{Lustre, C}
-use Rattle.dcv_cli.specs.ObserverFile.{Faulty, Refused, Read}
-use Rattle.dcv_cli.specs.Replayed.{LeavesAnswers, OfObserver, OfOpen as NotOpened, OfRead as ReadFailed}
-use Rattle.dcv_cli.proofs.ThreeEnds.{explains_first, for_any}
-use Rattle.dcv_io.specs.Disk.{WhereTold, ReadsAtMost}
+use Rattle.dcv_cli.specs.ObserverFile.{Faulty, Read}
+use Rattle.dcv_cli.specs.Replayed.{LeavesAnswers, OfOpen as NotOpened, OfRead as ReadFailed}
 use Rattle.dcv_cli.proofs.TwoFiles.{later_held}
 
 -- a fault of the text is a right refusal
@@ -28,23 +26,15 @@ keeps_the_rules InC text (C unit) is = is.read.well_named
 
 -- ---- of the file of a name
 
-module _ (subset : Subset) (told : Option Disk) (name trace : List ℕ) where
-  -- so it is right, whatever is held under the name of the trace
-  pub explains_replay : (refusal : Refusal) → OnTrue (is_determined (status_of refusal)) (IsHeldSuch told name (λ text. IsRefusedObserver subset text refusal))
-      → IsExplained (FulfilsOver (Replay subset name trace) told) Only refusal
-  explains_replay refusal refused_so =
-      explains_first told name (λ held text. OnObserver subset text (λ one. OnHeld (held 1) trace (IsReplay one))) Only refusal (λ text. IsRefusedObserver subset text refusal)
-      (λ held text is. Refused refusal is refl) refused_so
-
-  module _ (told' : Option Disk) (text : List ℕ) (observer : Observer) (same : held_of told' ≡ held_of told) (there : IsHeldText told name text)
-      (is : IsObserverText subset text observer) where
-    -- what is right for the trace, after the observer, is right for both
-    pub fulfils_replay : (outcome : Outcome) → FulfilsTrace observer trace told' outcome → FulfilsOver (Replay subset name trace) told outcome
-    fulfils_replay outcome right =
-        later_held told told' name text (λ held. OnHeld (held 0) trace (IsReplay observer) outcome) (λ held. Fulfils (Replay subset name trace) held outcome) same there moves right
-      where
-        moves : (held late : Texts) → held 0 name ≡ Some text → held 1 ≡ late 0 → OnHeld (late 0) trace (IsReplay observer) outcome → Fulfils (Replay subset name trace) held outcome
-        moves held late here next right = rw here (Read observer is (subst (λ held. OnHeld held trace (IsReplay observer) outcome) (sym next) right))
+module _ (subset : Subset) (told : Option Disk) (name trace : List ℕ) (told' : Option Disk) (text : List ℕ) (observer : Observer) (same : held_of told' ≡ held_of told)
+    (there : IsHeldText told name text) (is : IsObserverText subset text observer) where
+  -- what is right for the trace, after the observer, is right for both
+  pub fulfils_replay : (outcome : Outcome) → FulfilsTrace observer trace told' outcome → FulfilsOver (Replay subset name trace) told outcome
+  fulfils_replay outcome right =
+      later_held told told' name text (λ held. OnHeld (held 0) trace (IsReplay observer) outcome) (λ held. Fulfils (Replay subset name trace) held outcome) same there moves right
+    where
+      moves : (held late : Texts) → held 0 name ≡ Some text → held 1 ≡ late 0 → OnHeld (late 0) trace (IsReplay observer) outcome → Fulfils (Replay subset name trace) held outcome
+      moves held late here next right = rw here (Read observer is (subst (λ held. OnHeld held trace (IsReplay observer) outcome) (sym next) right))
 
 -- what was written where the trace failed is what was written for both
 pub leaves_replay : (subset : Subset) (name trace text : List ℕ) (observer : Observer) (told : Option Disk) (asked : Option (List (List ℕ))) (calls : ℕ) (before after : Outside) (bytes : List ℕ)
@@ -73,9 +63,3 @@ leaves_replay subset name trace text observer told asked calls before after byte
       trace_there = (λ i. next i trace) ∙ found_is;
       short = short;
     })
-
--- nothing was written where the observer's file failed
-pub leaves_before_trace : (subset : Subset) (name trace : List ℕ) (before after : Outside) → Asks (name ∷ []) before.asked after.asked
-    → WhereTold (ReadsAtMost name (most_observer_bytes + 1)) before.told after.told → LeavesFor (Replay subset name trace) before after []
-leaves_before_trace subset name trace before after asked read =
-    for_any before.told (λ held. LeavesAnswers subset name trace held before after []) (λ held. OfObserver asked read refl)

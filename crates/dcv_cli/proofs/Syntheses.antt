@@ -1,11 +1,11 @@
 -- What is found where a controller is asked for is right for the sets whose automaton it is, and for the file.
-use Rattle.dcv_cli.proofs.Common.{◌≡◌, ◌≢◌, ℕ, ◌+◌, ◌-◌, ◌≤◌, List, length, refl, sym, ap, subst, arith, take, IsTrue, IsFalse, nat_le}
+use Rattle.dcv_cli.proofs.Common.{◌≡◌, ◌≢◌, ℕ, ◌+◌, ◌-◌, ◌≤◌, List, length, refl, sym, ap, subst, arith, take, IsTrue, nat_le}
 use Rattle.dcv_cli.proofs.Common.{length-take, PlainFile, Name, models, Language, table_accepts, automaton_of as table_automaton, AreNames, Table, Word, IsCanonical}
 use Rattle.dcv_cli.proofs.Common.{IsPlainName, RawValue, IsRaw, table_of_states, Limits, IsAutomatonOf, TextIsReadBack, text_of, CUnit}
 use Rattle.dcv_cli.proofs.Common.{ControlValue, IsControlOf, controller_by, Wins, ControlsWin, StrategiesBeat, WinsOverSameBehaviours}
 use Rattle.dcv_cli.proofs.Common.{BeatsOverSameBehaviours, input_at, IsUnrealisable, environment_of, controller_in, Strategy, WithinBudget}
-use Rattle.dcv_cli.proofs.Common.{IsBuilt, Built, refused, is_answer, can_be_divided, controller_text, strategy_text, SaysController}
-use Rattle.dcv_cli.proofs.Common.{SaysStrategy, IsSynthesis, IsSynthesised, Undivided, Divided, status_of_synthesis, Formula, Outputs, Only}
+use Rattle.dcv_cli.proofs.Common.{IsBuilt, Built, is_answer, can_be_divided, controller_text, strategy_text, SaysController}
+use Rattle.dcv_cli.proofs.Common.{SaysStrategy, IsSynthesis, IsSynthesised, Divided, status_of_synthesis}
 use Rattle.std.proofs.lemmas.Bool.{and_parts, leb-true}
 use Rattle.std.proofs.lemmas.List.{get_or-take, take-map}
 use Rattle.std.proofs.lemmas.List.Elements.{All-take}
@@ -123,10 +123,6 @@ of_set n k L raw raw_is start within of =
 pub answers_found : (found : Synthesis) → IsTrue (is_answer (status_of_synthesis found))
 answers_found (FoundController unit) = refl
 answers_found (FoundStrategy strategy) = refl
-
-module _ (inputs : ℕ) (limits : Limits) (file : PlainFile) where
-  pub explains_undivided : IsFalse (can_be_divided inputs (length file.variables)) → IsSynthesised inputs limits file (refused (Formula Outputs) Only)
-  explains_undivided not = Undivided not refl
 
 -- what is found of its automaton
 pub found_of_file : (inputs : ℕ) (limits : Limits) (file : PlainFile) (names : List Name) (built : Built) (found : Synthesis) → names ≡ file.variables → IsBuilt file limits built

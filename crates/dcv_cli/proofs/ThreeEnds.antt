@@ -4,7 +4,7 @@ use Rattle.dcv_cli.proofs.Common.{◌≡◌, ℕ, ◌+◌, Bool, true, false, Li
 use Rattle.dcv_cli.proofs.Common.{subst, inl, inr, arith, take-length, IfErr, IsTrue, IsFalse, if◌then◌else◌, OnTrue, true≢false, Disk, has_risen}
 use Rattle.dcv_cli.proofs.Common.{RisesIf, Appends, AppendsPrefix, AppendsStrictPrefix, strict_is_prefix, Refusal, Open, Trace, Write}
 use Rattle.dcv_cli.proofs.Common.{Status, Valid, Done, NotValid, Input, Output, TraceFault, EndsBy, HasInputCause, NoneRises, Texts, OnHeld}
-use Rattle.dcv_cli.proofs.Common.{ForHeld, IsHeldSuch, IsHeldText, Outcome, IsExplained, refused, Outside, Stream, with_output, Answers, Performs, Takes}
+use Rattle.dcv_cli.proofs.Common.{ForHeld, OfHeldText, IsHeldText, Outcome, IsExplained, refused, Outside, Stream, with_output, Answers, Performs, Takes}
 use Rattle.dcv_cli.proofs.Common.{ending, Which, Only, status_of, message_of, only, is_open, is_read, is_of_text, has_cause, is_answer}
 use Rattle.dcv_cli.proofs.Common.{is_determined, is_input, is_output}
 use Rattle.std.proofs.Common.{append-nil}
@@ -50,7 +50,7 @@ fulfils_first told name text OfText outcome there right = for_text told name tex
 -- a refusal of a text that is held is one of what is held
 pub explains_first : (told : Option Disk) (name : List ℕ) (OfText : Texts → List ℕ → Outcome → Type 0) (which : Which) (refusal : Refusal) (Refuses : List ℕ → Type 0)
     → ((held : Texts) (text : List ℕ) → Refuses text → OfText held text (refused refusal which))
-    → OnTrue (is_determined (status_of refusal)) (IsHeldSuch told name Refuses)
+    → OnTrue (is_determined (status_of refusal)) (OfHeldText told name Refuses)
     → IsExplained (λ outcome. ForHeld told (λ held. OnHeld (held 0) name (OfText held) outcome)) which refusal
 explains_first told name OfText which refusal Refuses right explained =
     on_true_weaker (is_determined (status_of refusal))
@@ -59,7 +59,7 @@ explains_first told name OfText which refusal Refuses right explained =
 -- and so is one of a text that was taken
 pub refused_held : {T : Type 0} (told : Option Disk) (name text : List ℕ) (Refuses : Refusal → List ℕ → Type 0) (result : Result T Refusal) → IsHeldText told name text
     → IfErr result (λ refusal. OnTrue (is_determined (status_of refusal)) (Refuses refusal text))
-    → IfErr result (λ refusal. OnTrue (is_determined (status_of refusal)) (IsHeldSuch told name (Refuses refusal)))
+    → IfErr result (λ refusal. OnTrue (is_determined (status_of refusal)) (OfHeldText told name (Refuses refusal)))
 refused_held told name text Refuses (Ok value) there refused = tt
 refused_held told name text Refuses (Err refusal) there refused =
     on_true_weaker (is_determined (status_of refusal)) (λ is. record { text = text; there = there; is = is }) refused

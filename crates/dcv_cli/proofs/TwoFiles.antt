@@ -29,7 +29,7 @@ module _ {T : Type 0} {value : T} {first : List ℕ} {old mid : Outside} {limit 
   abbrev before : Outside
   before = with_output old out
 
-  -- what is seen after it, with counts that were not seen before it
+  -- what is seen after it, but for these counts
   abbrev counted : ℕ → ℕ → Outside
   counted opened read = record before { told = mid.told; asked = mid.asked; calls = mid.calls; open_faults = opened; read_faults = read }
 

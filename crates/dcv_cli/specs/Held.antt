@@ -2,7 +2,7 @@
 --     Texts                               what is held under each name, as the first file is opened, which has number 0, and as the next is
 --     OnHeld held name OfText outcome     the outcome is right for the text that is held under the name
 --     IsHeldText told name text           this text is held under the name, where that is told
---     IsHeldSuch told name P              so is one of which P is true
+--     OfHeldText told name P              P of the text that is held under the name, where that is told
 --     ForHeld told P                      P of what the files tell that they hold
 use Rattle.std.specs.Prelude.{◌≡◌, ℕ, List, Option, Some, IfSome, IsSomeAnd}
 use Rattle.dcv_cli.specs.Common.{Disk, held_of}
@@ -24,7 +24,7 @@ pub record ForHeld (told : Option Disk) (P : Texts → Type 0) : Type 0 where
 abbrev pub IsHeldText : Option Disk → List ℕ → List ℕ → Type 0
 IsHeldText told name text = IfSome (held_of told) (λ held. held name ≡ Some text)
 
-pub record IsHeldSuch (told : Option Disk) (name : List ℕ) (P : List ℕ → Type 0) : Type 0 where
+pub record OfHeldText (told : Option Disk) (name : List ℕ) (P : List ℕ → Type 0) : Type 0 where
   pub text : List ℕ
   pub there : IsHeldText told name text
   pub is : P text

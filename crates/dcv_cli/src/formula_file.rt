@@ -16,7 +16,7 @@ ghost use Rattle.dcv_build.specs.Budget.{IsFaultOver, IsRawOf};
 ghost use Rattle.dcv_cli.specs.Budget.{steps_of_file, NamesFirstOver, IsAtSomeStep};
 ghost use Rattle.dcv_cli.specs.Comparison.{have_same_texts};
 ghost use Rattle.dcv_cli.specs.FormulaFile.{IsRefused};
-ghost use Rattle.dcv_cli.specs.Held.{IsHeldSuch};
+ghost use Rattle.dcv_cli.specs.Held.{OfHeldText};
 ghost use Rattle.dcv_cli.specs.Outside.{of_files};
 ghost use Rattle.dcv_cli.specs.Performed.{Takes};
 ghost use Rattle.dcv_cli.specs.ReadFile.{IsRead, IsBuilt, IsDecided, CanBePrinted};
@@ -56,9 +56,9 @@ impl FormulaFile {
         files: &mut F,
         name: &str,
     ) -> Result<FormulaFile, Refusal>
-        ensures read { IfOk result (λ formula. IsHeldSuch (F.told files.old) name.now (λ text. (file : PlainFile) × IsRead text file formula)) }
+        ensures read { IfOk result (λ formula. OfHeldText (F.told files.old) name.now (λ text. (file : PlainFile) × IsRead text file formula)) }
         ensures refused { IfErr result (λ refusal. OnTrue (is_determined (status_of refusal))
-            (IsHeldSuch (F.told files.old) name.now (λ text. IsRefused text refusal))) }
+            (OfHeldText (F.told files.old) name.now (λ text. IsRefused text refusal))) }
         ensures taken { Takes most_bytes name.now result (of_files F.Files files.old) (of_files F.Files files.new) }
     {
         let too_long = Refusal::Formula(FormulaFault::Length);

@@ -5,7 +5,7 @@ ghost use Rattle.dcv_command.specs.Request.{Replay as ReplayRequest};
 ghost use Rattle.dcv_command.specs.declared.words.Subset.TheVariants.{Lustre, C};
 ghost use Rattle.dcv_replay.specs.Coming.{most_reads};
 ghost use Rattle.dcv_replay.specs.Observer.{Observer, KeepsTheRules, Follows};
-ghost use Rattle.dcv_cli.specs.Held.{IsHeldSuch};
+ghost use Rattle.dcv_cli.specs.Held.{OfHeldText};
 ghost use Rattle.dcv_cli.specs.ObserverFile.{IsRefusedObserver};
 ghost use Rattle.dcv_cli.specs.Outside.{of_files, outside};
 ghost use Rattle.dcv_cli.specs.Performed.{Performs, PerformsRequest, Takes};
@@ -49,9 +49,9 @@ fn observer_file<F: Files>(
     files: &mut F,
     name: &str,
 ) -> Result<Replay, Refusal>
-    ensures observer { IfOk result (λ replay. IsHeldSuch (F.told files.old) name.now (λ text. IsReplayOf subset text replay)) }
+    ensures observer { IfOk result (λ replay. OfHeldText (F.told files.old) name.now (λ text. IsReplayOf subset text replay)) }
     ensures refused { IfErr result (λ refusal. OnTrue (is_determined (status_of refusal))
-        (IsHeldSuch (F.told files.old) name.now (λ text. IsRefusedObserver subset text refusal))) }
+        (OfHeldText (F.told files.old) name.now (λ text. IsRefusedObserver subset text refusal))) }
     ensures taken { Takes most_observer_bytes name.now result (of_files F.Files files.old) (of_files F.Files files.new) }
 {
     let too_long = Refusal::Observer(ObserverFault::Length);

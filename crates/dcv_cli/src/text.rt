@@ -2,7 +2,7 @@
 ghost use Rattle.std.specs.Prelude.{◌≡◌, ◌<◌, ◌≤◌, Some, length, IfOk, IfErr, IfSome, IsTrue};
 ghost use Rattle.dcv_io.specs.Disk.{held_of};
 ghost use Rattle.std.specs.Bool.{OnTrue};
-ghost use Rattle.dcv_cli.specs.Held.{IsHeldSuch};
+ghost use Rattle.dcv_cli.specs.Held.{OfHeldText};
 ghost use Rattle.dcv_cli.specs.Outside.{of_files};
 ghost use Rattle.dcv_cli.specs.Performed.{Takes};
 ghost use Rattle.dcv_cli.specs.Status.{is_determined};
@@ -26,7 +26,7 @@ pub(crate) fn take<F: Files>(
 
     // Where it is neither the outside nor memory, the text is too long.
     ensures refused { IfErr result (λ refusal. OnTrue (is_determined (status_of refusal))
-        ((refusal ≡ too_long) × IsHeldSuch (F.told files.old) name.now (λ text. limit < length text))) }
+        ((refusal ≡ too_long) × OfHeldText (F.told files.old) name.now (λ text. limit < length text))) }
     ensures taken { Takes limit name.now result (of_files F.Files files.old) (of_files F.Files files.new) }
 {
     match read_all(alloc, files, name, u64::from(limit)) {

@@ -1,13 +1,12 @@
 -- What is answered of the automata is what is right for the files.
-use Rattle.dcv_cli.proofs.Common.{◌∙◌, sym, ap, Err, letters_of, IsCompared, First, Second}
+use Rattle.dcv_cli.proofs.Common.{refl, Undeclared, ◌∙◌, sym, ap, Err, letters_of, IsCompared, First, Second}
 use Rattle.dcv_cli.proofs.Comparisons.{names_same, names_differ, count_same, explains_first_over, explains_second_over, compares, explains_product}
-use Rattle.dcv_cli.proofs.Comparisons.{undeclared}
 use Rattle.dcv_cli.proofs.ThreeEnds.{marked_explains}
 use Rattle.dcv_cli.proofs.implies.compare.Goals as goal
 
 pub returns-then-not-has_names_of-clause-refused : goal.returns-then-not-has_names_of-clause-refused
 returns-then-not-has_names_of-clause-refused c text other_text one other is is' =
-    rw c.of.ensures (undeclared c.args.limits one other (names_differ _ _ one other _ c.has_names_of.ensures is.names is'.names c.if-not-has_names_of.true))
+    rw c.of.ensures (Undeclared (names_differ _ _ one other _ c.has_names_of.ensures is.names is'.names c.if-not-has_names_of.true) refl)
 
 pub returns-in-Err-clause-refused : goal.returns-in-Err-clause-refused
 returns-in-Err-clause-refused c text other_text one other is is' =

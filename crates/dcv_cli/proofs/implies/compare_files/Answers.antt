@@ -1,8 +1,9 @@
 -- What is right for the second file, after the first, is right for both.
-use Rattle.dcv_cli.proofs.Common.{[], ◌∷◌, ◌+◌, most_bytes, IsCompared, OnText, OnHeld, First, Second}
-use Rattle.dcv_cli.proofs.Comparisons.{fulfils_both, leaves_both, leaves_first}
+use Rattle.dcv_cli.proofs.Common.{refl, [], ◌∷◌, ◌+◌, most_bytes, IsCompared, OnText, OnHeld, First, Second}
+use Rattle.dcv_cli.specs.Comparison.{OfFirst}
+use Rattle.dcv_cli.proofs.Comparisons.{fulfils_both, leaves_both}
 use Rattle.dcv_cli.proofs.Outcomes.{explains_file}
-use Rattle.dcv_cli.proofs.ThreeEnds.{performs_untaken}
+use Rattle.dcv_cli.proofs.ThreeEnds.{for_any, performs_untaken}
 use Rattle.dcv_cli.proofs.TwoFiles.{performs_later}
 use Rattle.dcv_cli.proofs.implies.compare_files.Goals as goal
 
@@ -23,4 +24,4 @@ returns-in-Err g c =
     let taken = c.in-Err.ensures.taken in
     rw c.in_file.ensures (performs_untaken _ _ (c.args.second.now ∷ []) c.in-Err.refusal (most_bytes + 2) taken _ First
     (explains_file _ _ First (λ held one. OnHeld (held 1) c.args.second.now (λ text. OnText text Second (IsCompared c.args.limits one))) c.in-Err.refusal c.in-Err.ensures.refused)
-    (leaves_first c.args.first.now c.args.second.now c.args.limits _ _ taken.asked taken.bytes))
+    (for_any _ _ (λ held. OfFirst taken.asked taken.bytes refl)))

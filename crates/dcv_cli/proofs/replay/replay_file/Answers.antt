@@ -1,8 +1,10 @@
 -- What is right for the trace, after the observer, is right for both.
-use Rattle.dcv_cli.proofs.Common.{[], ◌∷◌, ◌+◌, err_from_is_err_and}
+use Rattle.dcv_cli.proofs.Common.{refl, [], ◌∷◌, ◌+◌, err_from_is_err_and, IsReplay, OnHeld, OnObserver, Only}
 use Rattle.dcv_replay.specs.Coming.{most_reads}
-use Rattle.dcv_cli.proofs.Replays.{explains_replay, fulfils_replay, keeps_the_rules, leaves_before_trace, leaves_replay}
-use Rattle.dcv_cli.proofs.ThreeEnds.{performs_only}
+use Rattle.dcv_cli.specs.ObserverFile.{Refused}
+use Rattle.dcv_cli.specs.Replayed.{OfObserver}
+use Rattle.dcv_cli.proofs.Replays.{fulfils_replay, keeps_the_rules, leaves_replay}
+use Rattle.dcv_cli.proofs.ThreeEnds.{explains_first, for_any, performs_only}
 use Rattle.dcv_cli.proofs.TwoFiles.{performs_later}
 use Rattle.dcv_cli.proofs.replay.replay_file.Goals as goal
 
@@ -12,8 +14,8 @@ returns-in_err-replay g c =
     let refusal = c.in_err-replay.field-0.0 in
     let taken = c.in_err-replay.ensures.taken in
     rw (p.1, p.2) (performs_only _ _ (c.args.trace.now ∷ []) refusal (1 + most_reads) taken _
-    (explains_replay c.args.subset _ c.args.observer.now c.args.trace.now refusal c.in_err-replay.ensures.refused)
-    (leaves_before_trace c.args.subset c.args.observer.now c.args.trace.now _ _ taken.asked taken.bytes))
+    (explains_first _ _ (λ held text. OnObserver c.args.subset text (λ one. OnHeld (held 1) c.args.trace.now (IsReplay one))) Only refusal _ (λ held text is. Refused refusal is refl) c.in_err-replay.ensures.refused)
+    (for_any _ _ (λ held. OfObserver taken.asked taken.bytes refl)))
 
 pub returns : goal.returns
 returns g c =

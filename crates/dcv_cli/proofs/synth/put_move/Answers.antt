@@ -1,6 +1,5 @@
 -- The pieces are those of the line, in order.
-use Rattle.dcv_cli.proofs.Common.{◌≡◌, ◌++◌, codes, ◌∙◌, decimal, puts_both, puts_same}
-use Rattle.dcv_cli.proofs.Pieces.{five_pieces}
+use Rattle.dcv_cli.proofs.Common.{◌≡◌, ◌++◌, append_assoc, codes, ◌∙◌, decimal, puts_both, puts_same}
 use Rattle.dcv_cli.proofs.synth.put_move.Goals as goal
 
 pub returns : goal.returns
@@ -10,5 +9,5 @@ returns g c =
     let same : codes "state " ++ (c.as_bytes.result.now ++ (codes " rank " ++ (c.as_bytes-2.result.now ++ codes " input ")))
     ≡ codes "state " ++ decimal c.args.one.state ++ codes " rank " ++ decimal c.args.one.rank ++ codes " input " =
     (λ i. codes "state " ++ (state i ++ (codes " rank " ++ (rank i ++ codes " input "))))
-    ∙ five_pieces (codes "state ") (decimal c.args.one.state) (codes " rank ") (decimal c.args.one.rank) (codes " input ") in
+    ∙ simp append_assoc in
     puts_both _ _ _ _ _ (puts_both _ _ _ _ _ (puts_same _ _ _ _ c.put_pieces.ensures same) c.put_letter.ensures) c.put.ensures

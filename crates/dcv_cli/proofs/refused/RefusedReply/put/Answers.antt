@@ -1,7 +1,7 @@
 -- The words, and then the end of the line.
 use Rattle.dcv_cli.proofs.Common.{ap, ◌∙◌, ◌++◌, puts_both, puts_same}
 use Rattle.dcv_cli.specs.Refusal.{words_of}
-use Rattle.dcv_cli.proofs.Pieces.{ends_line}
+use Rattle.dcv_cli.proofs.Endings.{ends_line}
 use Rattle.dcv_cli.proofs.refused.RefusedReply.put.Goals as goal
 
 pub returns : goal.returns

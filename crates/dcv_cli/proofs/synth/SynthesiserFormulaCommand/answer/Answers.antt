@@ -1,9 +1,9 @@
 -- What is found is what is right for the file.
-use Rattle.dcv_cli.proofs.Common.{◌≡◌, ◌∙◌, ℕ, List, Bool, length, refl, sym, ap, err_from_is_err_and, Name, can_be_divided, Divided}
+use Rattle.dcv_cli.proofs.Common.{◌≡◌, ◌∙◌, ℕ, List, Bool, length, refl, sym, ap, err_from_is_err_and, Name, can_be_divided, Divided, Undivided}
 use Rattle.dcv_cli.proofs.Common.{status_of_synthesis, Formula, Memory, Outputs}
 use Rattle.dcv_cli.specs.Synthesised.{synthesis_text}
 use Rattle.dcv_cli.proofs.Outcomes.{answers_over}
-use Rattle.dcv_cli.proofs.Syntheses.{answers_found, explains_undivided, found_of_file}
+use Rattle.dcv_cli.proofs.Syntheses.{answers_found, found_of_file}
 use Rattle.dcv_cli.proofs.ThreeEnds.{answers_moved, answers_only, answers_reply}
 use Rattle.dcv_cli.proofs.synth.SynthesiserFormulaCommand.answer.Goals as goal
 
@@ -15,7 +15,7 @@ pub returns-then-not-can_be_divided : goal.returns-then-not-can_be_divided
 returns-then-not-can_be_divided g c text file is =
     let self = c.args.self.now in
     let not = tested self.inputs _ file.variables _ c.can_be_divided.ensures (c.names.ensures ∙ is.names) ∙ c.if-not-can_be_divided.true in
-    rw c.of.ensures (answers_only _ (Formula Outputs) refl (explains_undivided self.inputs self.limits file not) _)
+    rw c.of.ensures (answers_only _ (Formula Outputs) refl (Undivided not refl) _)
 
 pub returns-in_err-built : goal.returns-in_err-built
 returns-in_err-built g c text file is =
