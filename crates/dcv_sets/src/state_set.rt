@@ -43,16 +43,15 @@ fn is_ascending(states: &[u32]) -> bool
     true
 }
 
-// The set of these states, as a list in ascending order.
-fn ascending(mut states: States) -> States
-    ensures { result.items ≡ set_of states.items }
+// Puts the states of a list in ascending order, each once.
+fn ascend(states: &mut States)
+    ensures { states.new.items ≡ set_of states.old.items }
 {
-    if is_ascending(&states) {
-        return states;
+    if is_ascending(states.as_slice()) {
+        return;
     }
     states.sort_unstable();
     states.dedup();
-    states
 }
 
 // Adds a state at its place in an ascending list, where it is not there.
@@ -76,10 +75,9 @@ impl StateSet {
     pub fn of(alloc: Global, states: &[u32]) -> Result<StateSet, AllocError>
         ensures { IfOk result (λ set. set ≡ set_of states.now) }
     {
-        let listed = SmallVec::from_slice(alloc, states)?;
-        Ok(StateSet {
-            states: ascending(listed),
-        })
+        let mut listed = SmallVec::from_slice(alloc, states)?;
+        ascend(&mut listed);
+        Ok(StateSet { states: listed })
     }
 
     /// The set of its states and these. It takes no more memory than both have, but where all lie in place.
@@ -92,9 +90,8 @@ impl StateSet {
         for state in more {
             add(&mut states, *state)?;
         }
-        Ok(StateSet {
-            states: ascending(states),
-        })
+        ascend(&mut states);
+        Ok(StateSet { states })
     }
 
     /// The set without its last state, and that state, where it is a large one.

@@ -20,4 +20,4 @@ loop-state-preserved c =
 
 pub returns : goal.returns
 returns c =
-    c.ascending.ensures ∙ c.loop-state.invariant ∙ ap (λ listed. set_of (c.args.self.now ++ listed)) (take_all c.loop-state.state-index c.args.more.now c.loop-state-test.false)
+    c.ascend.ensures ∙ c.loop-state.invariant ∙ ap (λ listed. set_of (c.args.self.now ++ listed)) (take_all c.loop-state.state-index c.args.more.now c.loop-state-test.false)
