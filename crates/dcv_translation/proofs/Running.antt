@@ -1,5 +1,5 @@
 -- The steps of a translation, over plain lists of steps and parts.
-use Rattle.std.proofs.Common.{◌≡◌, ℕ, zero, suc, Bool, true, false, cond, ◌+◌, ◌*◌, ◌<◌, ◌≤◌, List, [], ◌∷◌, ◌++◌, length, map, take, drop, reverse, Option, Some, None, refl, sym, ap, ◌∙◌, subst, arith}
+use Rattle.std.proofs.Common.{◌≡◌, ℕ, zero, suc, Bool, true, false, cond, ◌+◌, ◌*◌, ◌<◌, List, [], ◌∷◌, ◌++◌, length, map, take, drop, reverse, Option, Some, None, refl, sym, ap, ◌∙◌, subst, arith}
 use Rattle.std.proofs.Common.{append_assoc, append-nil, length-append}
 use Rattle.std.specs.Prelude.{◌==◌, slice_get, is_some, Contains, option_map, IfSome}
 use Rattle.std.specs.Option.{option_to_list}
@@ -15,14 +15,14 @@ use Rattle.dcv_grammar.specs.Predictive.{IsPredictive}
 use Rattle.dcv_grammar.specs.Trees.{Nodes, done, leaf, node, leaves, join, AreTrees, IsTree}
 use Rattle.dcv_grammar.proofs.Facts.{facts, hints}
 use Rattle.dcv_grammar.proofs.Derivations.{rule_at, body_in, body_picked, reached_guarded}
-use Rattle.dcv_grammar.proofs.Steps.{IsStackFor, stack_weight, in_table, weight_less, stack_step, stack_for_itself, wants_class, wants_nothing, follows_class, no_more_viable, sentence_at_end}
+use Rattle.dcv_grammar.proofs.Steps.{IsStackFor, stack_weight, in_table, weight_less, stack_step, follows_class, no_more_viable, sentence_at_end}
 use Rattle.dcv_grammar.proofs.TreeLaws.{leaves_join, trees_join, derives_leaves}
 use Rattle.dcv_lexer.specs.Cuts.{Token}
 use Rattle.dcv_observer.specs.Items.{token_class}
 use Rattle.dcv_translation.specs.declared.machine.Step.{Step}
 use Rattle.dcv_translation.specs.declared.machine.Step.TheVariants.{Class, Rule, Close}
-use Rattle.dcv_observer.specs.Scheme.{Scheme, parts_of, IsOfBody}
-use Rattle.dcv_translation.specs.UnderWay.{step_of, symbols_of, Runs, IsUnderWay, Fits, IsReady, with_class, Advances, Takes}
+use Rattle.dcv_observer.specs.Scheme.{Scheme, parts_of}
+use Rattle.dcv_translation.specs.UnderWay.{step_of, symbols_of, Runs, IsUnderWay, Fits, with_class, Advances, Takes}
 
 -- ---- the body that is picked
 
@@ -322,13 +322,6 @@ pub record Keeps {Part : Type 0} (scheme : Scheme Part) (next : Option ℕ) (beg
       → IsUnderWay scheme begun begun_parts left all → IsUnderWay scheme steps parts left all
 
 module _ {Part : Type 0} (scheme : Scheme Part) (next : Option ℕ) (begun : List Step) (begun_parts : List Part) where
-  pub begins : IsReady scheme begun begun_parts → Keeps scheme next begun begun_parts begun begun_parts
-  begins ready = record {
-    stack = stack_for_itself scheme.grammar next (symbols_of begun) ready.reached;
-    fits = ready.fits;
-    goes = λ left all comes under. under;
-  }
-
   -- of the steps as the code keeps them
   module _ (before after : List Step) (parts new_parts : List Part) (keeps : Keeps scheme next begun begun_parts before parts) where
     module _ (p : IsPredictive scheme.grammar) (number first : ℕ) (steps : List Step) (top : before ≡ Rule number ∷ steps) where
@@ -360,46 +353,6 @@ module _ {Part : Type 0} (scheme : Scheme Part) (next : Option ℕ) (begun : Lis
             subst (λ (both : List Step × List Part). Keeps scheme next begun begun_parts both.0 both.1) (λ i. (sym is i, sym same i)) (turned_to_body rule at),
             omega (arith, less, ap (steps_weight scheme.grammar) is, ap (steps_weight scheme.grammar) top),
           )
-
-    module _ (rule first : ℕ) (steps : List Step) (top : before ≡ Close rule first ∷ steps) where
-      kept_end : Keeps scheme next begun begun_parts (Close rule first ∷ steps) parts
-      kept_end = subst (λ (l : List Step). Keeps scheme next begun begun_parts l parts) top keeps
-
-      pub first_there : first ≤ length parts
-      first_there = kept_end.fits.0
-
-      pub own_parts : IsOfBody scheme rule (drop first parts)
-      own_parts = kept_end.fits.1
-
-      pub close_turn : after ≡ steps → new_parts ≡ take first parts ++ scheme.action rule (drop first parts) ∷ []
-          → Keeps scheme next begun begun_parts after new_parts × (steps_weight scheme.grammar after < steps_weight scheme.grammar before)
-      close_turn is same = (
-        subst (λ (both : List Step × List Part). Keeps scheme next begun begun_parts both.0 both.1) (λ i. (sym is i, sym same i)) (record {
-          stack = kept_end.stack;
-          fits = kept_end.fits.2;
-          goes = λ left all comes under. closed scheme rule first steps parts all left (kept_end.goes left all comes under);
-        }),
-        omega (arith, ap (steps_weight scheme.grammar) is, ap (steps_weight scheme.grammar) top),
-      )
-
-    -- the machine stops at a class, or after the last step
-    pub stops_at_class : (class : ℕ) → before ≡ Class class ∷ after → Advances scheme next begun begun_parts (Some class) after parts
-    stops_at_class class top =
-        let kept = subst (λ (l : List Step). Keeps scheme next begun begun_parts l parts) top keeps in
-        record {
-          wants = wants_class scheme.grammar next (symbols_of begun) class (symbols_of after) kept.stack;
-          fits = kept.fits;
-          goes = kept.goes;
-        }
-
-    pub stops_at_end : before ≡ [] → after ≡ [] → Advances scheme next begun begun_parts None after parts
-    stops_at_end none same =
-        let kept = subst (λ (l : List Step). Keeps scheme next begun begun_parts l parts) none keeps in
-        subst (λ (l : List Step). Advances scheme next begun begun_parts None l parts) (sym same) (record {
-          wants = wants_nothing scheme.grammar next (symbols_of begun) kept.stack;
-          fits = kept.fits;
-          goes = kept.goes;
-        })
 
 -- ---- one token, and the end
 

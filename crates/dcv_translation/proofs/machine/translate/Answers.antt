@@ -1,7 +1,7 @@
 use Rattle.std.proofs.Common.{length, map, reverse, refl, ap, ◌∙◌}
 use Rattle.dcv_grammar.specs.Grammar.{grammar_of}
 use Rattle.dcv_lexer.specs.Lexicon.{lexicon_of}
-use Rattle.dcv_translation.proofs.Within.{begun, ready, class_is, item_refused, item_taken, part_found, end_refused}
+use Rattle.dcv_translation.proofs.Within.{begun, item_refused, item_taken, part_found, end_refused}
 use Rattle.dcv_translation.proofs.machine.translate.Goals as goal
 
 pub loop-item-init : goal.loop-item-init
@@ -12,26 +12,6 @@ loop-item-init g c =
       begun scheme c.args.text.now (reverse machine.steps.items) (map g.T.Translation.meaning machine.parts.items) c.new-items.result (lexicon_of c.lexicon.result.now)
           (ap reverse c.in_ok-machine.ensures.steps) (ap (map g.T.Translation.meaning) c.in_ok-machine.ensures.parts)
           c.lexicon.ensures.lexicon c.new-items.ensures.lexicon c.new-items.ensures.all,
-    )
-
-pub take-requires : goal.take-requires
-take-requires g c κs =
-    let scheme = g.T.Translation.scheme in
-    let machine = c.loop-item.machine in
-    let steps = reverse machine.steps.items in
-    let parts = map g.T.Translation.meaning machine.parts.items in
-    let within = c.loop-item.invariant.1 in (
-      (refl, tt),
-      (
-        c.loop-item.invariant.0,
-        (
-          c.in_ok-machine.ensures.predictive,
-          (
-            class_is scheme c.args.text.now steps parts c.loop-item.items within c.in-Some.item c.next.new.self c.in-Some.ensures.steps,
-            ready scheme c.args.text.now steps parts c.loop-item.items within,
-          ),
-        ),
-      ),
     )
 
 pub returns-then-not-branch-clause-fault : goal.returns-then-not-branch-clause-fault
