@@ -23,7 +23,7 @@ use Rattle.clap.specs.declared.parser.matches.ValueSource.TheVariants.{CommandLi
 use Rattle.clap.proofs.OnLiterals.{clap_on_literals}
 use Rattle.clap.proofs.WalkLemmas.{find-map}
 use Rattle.dcv_command.specs.Request.{IsTaken, request_of}
-use Rattle.dcv_command.specs.Laws.{AreACommands, TakenWordsAreACommands, TakenWordsAsk}
+use Rattle.dcv_command.specs.Laws.{IsCommandLine, TakenWordsAreCommandLines, TakenWordsAsk}
 use Rattle.dcv_command.proofs.Arguments.{AreLookedUp, IsLookedUp, Numbered, built_rule, built_rules, built_shape, defaults_of, help, numbered, of_numbered}
 use Rattle.dcv_command.proofs.Arguments.{parser}
 use Rattle.dcv_command.proofs.Commands.{IsCommand, asked_below, built_command, each_among, fault_alone, faults_below, found_below, is_among, names, top}
@@ -214,10 +214,10 @@ taken_words_ask words taken =
     (words_ask begun.command.arguments begun.is.looked_up begun.command.name begun.command.asks begun.rest
     (sym (faults_below begun.command begun.is begun.rest) ∙ ap (fault_of program) (sym begun.same) ∙ taken)))
 
-pub taken_words_are_a_commands : TakenWordsAreACommands
-taken_words_are_a_commands words = ((taken_passes words, λ passes. no_kind (fault_of program words) (program_agrees words ∙ passes)), (to, from))
+pub taken_words_are_command_lines : TakenWordsAreCommandLines
+taken_words_are_command_lines words = ((taken_passes words, λ passes. no_kind (fault_of program words) (program_agrees words ∙ passes)), (to, from))
   where
-    to : IsTaken words → AreACommands words
+    to : IsTaken words → IsCommandLine words
     to taken =
         let begun = begins words (taken_passes words taken) in
         record {
@@ -231,7 +231,7 @@ taken_words_are_a_commands words = ((taken_passes words, λ passes. no_kind (fau
               ∙ ap (λ (app : App). asked_of begun.command (rows_after app.top.rules (names_of app) begun.rest)) (sym begun.is.alone_is);
         }
 
-    from : AreACommands words → IsTaken words
+    from : IsCommandLine words → IsTaken words
     from are = ap (fault_of program) are.begin ∙ fault_alone are.command (is_among are.command are.among) are.rest ∙ are.taken
 
 -- matches of taken words ask for something

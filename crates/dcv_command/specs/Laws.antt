@@ -6,9 +6,9 @@ use Rattle.dcv_command.specs.Program.{alone, program}
 use Rattle.dcv_command.specs.Request.{IsTaken, asked_of, request_of}
 use Rattle.dcv_command.specs.Table.{Argument, Command, commands}
 
--- the words are a command's name, and words in which `clap` finds no fault for this command alone; and they ask for what the command asks for by
--- the matches that `clap` has of these
-pub record AreACommands (words : List Text) : Type 0 where
+-- the words are a command's name, and words in which `clap` finds no fault for this command alone; and they ask for what the command asks for
+-- by `clap`'s matches of these
+pub record IsCommandLine (words : List Text) : Type 0 where
   pub command : Command
   pub among : Contains commands command
   pub rest : List Text
@@ -16,10 +16,9 @@ pub record AreACommands (words : List Text) : Type 0 where
   pub taken : fault_of (alone command) rest ≡ []
   pub asked : request_of words ≡ asked_of command (matches_of (alone command) rest)
 
--- the words that are taken: `clap` finds no fault in them for the program where they pass its test, and only there, and where they are a
--- command's, and only there
-abbrev pub TakenWordsAreACommands : Type 0
-TakenWordsAreACommands = (words : List Text) → (IsTaken words ↔ (takes program words ≡ true)) × (IsTaken words ↔ AreACommands words)
+-- `clap` finds no fault in the words for the program where they pass its test, and only there; and where they are a command line, and only there
+abbrev pub TakenWordsAreCommandLines : Type 0
+TakenWordsAreCommandLines = (words : List Text) → (IsTaken words ↔ (takes program words ≡ true)) × (IsTaken words ↔ IsCommandLine words)
 
 -- words in which `clap` finds no fault ask for something
 abbrev pub TakenWordsAsk : Type 0

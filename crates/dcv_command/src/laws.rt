@@ -1,10 +1,10 @@
 //! Laws on the words of the command line, each the contract of a function that does nothing.
-ghost use Rattle.dcv_command.specs.Laws.{TakenWordsAreACommands, TakenWordsAsk, ListedWordsAreTaken};
+ghost use Rattle.dcv_command.specs.Laws.{TakenWordsAreCommandLines, TakenWordsAsk, ListedWordsAreTaken};
 
-/// Which words are taken: those in which `clap` finds no fault for the program that the table gives, which are those that pass `clap`'s own
-/// test, and those that are a command's name and words that `clap` takes for that command. What they ask for is what `clap` finds in these.
-pub fn taken_words_are_a_commands()
-    ensures { TakenWordsAreACommands }
+/// Which words are taken: those in which `clap` finds no fault for the program of the table are those that pass its test for it, and those
+/// that are a command's name and words in which it finds no fault for that command. They ask for what `clap`'s matches of these say.
+pub fn taken_words_are_command_lines()
+    ensures { TakenWordsAreCommandLines }
 {}
 
 /// Words in which `clap` finds no fault ask for something.

@@ -120,7 +120,7 @@ fn matches_of<'a, S: AsStr>(alloc: Global, words: &'a [S]) -> Result<ArgMatches<
     }
 }
 
-// The text with which the words are refused, or of the help that they ask for.
+// The text with which the words are refused, or of the help that they ask for: no clause of `clap` says that it has one.
 fn text_of(alloc: Global, error: &Error) -> Result<String, AllocError>
     ensures { IfOk result (λ text. string_bytes text ≢ []) }
 {

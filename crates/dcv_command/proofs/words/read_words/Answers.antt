@@ -7,7 +7,7 @@ use Rattle.dcv_command.specs.Seen.{asked_by, IsUsageOnlyWhere}
 use Rattle.dcv_command.specs.declared.words.WordsFault.{WordsFault}
 use Rattle.dcv_command.specs.declared.words.WordsFault.TheVariants.{Usage, Memory}
 use Rattle.dcv_command.proofs.Ranges.{request_is_in_range}
-use Rattle.dcv_command.proofs.TakenWords.{matches_ask, taken_words_are_a_commands}
+use Rattle.dcv_command.proofs.TakenWords.{matches_ask, taken_words_are_command_lines}
 use Rattle.dcv_command.proofs.words.read_words.Goals as goal
 
 pub unreachable-requires : goal.unreachable-requires
@@ -26,4 +26,4 @@ returns-in_err-matches-clause-passes g c =
     let words = map g.S.AsStr.text c.args.words.now in
     let usage : IfErr c.from_residual.result (IsUsageOnlyWhere (¬ (IsTaken words))) = search rules in
     IfErr-weaker c.from_residual.result (IsUsageOnlyWhere (¬ (IsTaken words))) (IsUsageOnlyWhere (¬ (takes program words ≡ true)))
-    (only_where (¬ (IsTaken words)) (¬ (takes program words ≡ true)) (λ refused passes. refused ((taken_words_are_a_commands words).0.1 passes))) usage
+    (only_where (¬ (IsTaken words)) (¬ (takes program words ≡ true)) (λ refused passes. refused ((taken_words_are_command_lines words).0.1 passes))) usage
