@@ -19,6 +19,50 @@ pub const MOST_AUTOMATON_BYTES: u32 = 134_217_728;
 /// The most bytes that the text of an observer has.
 pub const MOST_OBSERVER_BYTES: u32 = 134_217_728;
 
+/// What a line says of a fault.
+#[derive(Clone, Copy)]
+pub struct FaultWords {
+    // what is wrong
+    word: &'static [u8],
+    // the offset or the line that shows it
+    number: Option<u32>,
+}
+
+// The words of a fault that no place shows.
+fn alone(word: &'static [u8]) -> FaultWords
+    ensures { words_in result ≡ fault_words word.now }
+{
+    FaultWords { word, number: None }
+}
+
+// The words of a fault that this place shows.
+fn placed(word: &'static [u8], at: u32) -> FaultWords
+    ensures { words_in result ≡ fault_words word.now ++ decimal at }
+{
+    FaultWords {
+        word,
+        number: Some(at),
+    }
+}
+
+impl FaultWords {
+    /// Puts them.
+    pub fn put<T: Target>(self, target: &mut T)
+        ensures { Puts (T.standing target.old) (T.standing target.new) (words_in self) }
+    {
+        match self.number {
+            None => put_fault(target, self.word),
+            Some(number) => {
+                let mut digits = Buffer::new();
+                put_pieces(
+                    target,
+                    &[b"fault ", self.word, digits.format(number).as_bytes()],
+                );
+            }
+        }
+    }
+}
+
 /// Why a text is no formula file.
 #[derive(Clone, Copy)]
 pub enum FormulaFault {
@@ -151,50 +195,6 @@ fn words_of_scope(fault: ScopeFault) -> FaultWords
         ScopeFault::Slots { at } => placed(b"slots at ", at),
         ScopeFault::BoundShift { at } => placed(b"shift at ", at),
         ScopeFault::Memory => alone(b"memory"),
-    }
-}
-
-/// What a line says of a fault.
-#[derive(Clone, Copy)]
-pub struct FaultWords {
-    // what is wrong
-    word: &'static [u8],
-    // the offset or the line that shows it
-    number: Option<u32>,
-}
-
-// The words of a fault that no place shows.
-fn alone(word: &'static [u8]) -> FaultWords
-    ensures { words_in result ≡ fault_words word.now }
-{
-    FaultWords { word, number: None }
-}
-
-// The words of a fault that this place shows.
-fn placed(word: &'static [u8], at: u32) -> FaultWords
-    ensures { words_in result ≡ fault_words word.now ++ decimal at }
-{
-    FaultWords {
-        word,
-        number: Some(at),
-    }
-}
-
-impl FaultWords {
-    /// Puts them.
-    pub fn put<T: Target>(self, target: &mut T)
-        ensures { Puts (T.standing target.old) (T.standing target.new) (words_in self) }
-    {
-        match self.number {
-            None => put_fault(target, self.word),
-            Some(number) => {
-                let mut digits = Buffer::new();
-                put_pieces(
-                    target,
-                    &[b"fault ", self.word, digits.format(number).as_bytes()],
-                );
-            }
-        }
     }
 }
 
