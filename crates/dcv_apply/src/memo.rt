@@ -17,7 +17,8 @@ use std::marker::Model;
 use std::mem::swap;
 use std::num::NonZeroUsize;
 
-// For so many entries a map has room from the first on, which most operations never fill.
+// For so many entries a map has room from the first on, which most operations never fill: growing step by step to there would take
+// more time than they do.
 const FIRST_ROOM: usize = 72;
 
 /// The capacity of a memo where its caller asks for no other. An exploration takes such a memo, and so does a proposition whose operands are
@@ -27,15 +28,12 @@ pub const USUAL_CAPACITY: usize = 65_536;
 // How many operands the lists of the map of other numbers of operands may have together before they are forgotten: 16 bytes each.
 const MOST_OPERANDS: usize = 2_097_152;
 
-// Makes room for another of so many entries at most, where there is none: for the first ones at once, and then for three times as many as
-// there are, unless memory runs out. To grow step by step takes longer than to make the entries.
-fn make_room(pairs: &mut IndexMap<Pair, Ref>, most: usize)
+// Makes room for the first entries of a map that will have so many at most, unless memory runs out.
+fn make_first_room(pairs: &mut IndexMap<Pair, Ref>, most: usize)
     ensures { pairs.new.entries ≡ pairs.old.entries }
 {
-    let many = pairs.len();
-    if many == pairs.capacity() {
-        let more = many.saturating_mul(3).max(FIRST_ROOM);
-        drop(pairs.reserve(more.min(most.saturating_sub(many))));
+    if pairs.is_empty() {
+        drop(pairs.reserve(FIRST_ROOM.min(most)));
     }
 }
 
@@ -169,7 +167,7 @@ impl Memo {
         ensures capacity { self.new.capacity ≡ self.old.capacity }
     {
         if self.younger.len() + self.older.len() + self.first.len() < self.room {
-            make_room(&mut self.younger, self.room / 2);
+            make_first_room(&mut self.younger, self.room);
             drop(self.younger.insert(pair, root));
         } else {
             let alloc = *self.first.allocator();

@@ -15,8 +15,8 @@ returns-then-len-self-clause-adds c one there =
     let later = map entry_of c.self.inside.later.entries in
     subst (λ (memo : MemoValue). Contains memo.entries one ⊎ Added one) c.self.view_is
     (parts_add young (old ++ (first ++ later)) _ _ Added
-    (subst (λ kept. (one : EntryValue) → Contains (map entry_of_pair c.insert.new.self.entries) one → Contains (map entry_of_pair kept) one ⊎ Added one) c.make_room.ensures
-    (insert_result pair_eq.it entry_of_pair same_pair c.insert.result c.make_room.new.pairs.entries c.insert.new.self.entries c.args.pair c.args.root c.insert.ensures.entries c.insert.ensures.err))
+    (subst (λ kept. (one : EntryValue) → Contains (map entry_of_pair c.insert.new.self.entries) one → Contains (map entry_of_pair kept) one ⊎ Added one) c.make_first_room.ensures
+    (insert_result pair_eq.it entry_of_pair same_pair c.insert.result c.make_first_room.new.pairs.entries c.insert.new.self.entries c.args.pair c.args.root c.insert.ensures.entries c.insert.ensures.err))
     (λ one was. inl was) one there)
 
 pub returns-else-len-self-clause-adds : goal.returns-else-len-self-clause-adds
