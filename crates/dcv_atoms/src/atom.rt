@@ -234,6 +234,10 @@ impl Machine for Atom<'_> {
         Ok(rows::after(self.basic, from, leaves[2] == 1, shifted))
     }
 
+    fn copy(&self, _alloc: Global, of: &AtomMacro) -> Result<AtomMacro, AllocError> {
+        Ok(*of)
+    }
+
     fn extend(
         &self,
         _alloc: Global,

@@ -1,4 +1,4 @@
-// States in which machines begin, with no numbers more.
+// Copies of the states in which machines begin. The program makes none.
 ghost use Rattle.std.specs.Prelude.{◌<◌};
 
 use crate::atoms::atom_of;
@@ -11,10 +11,10 @@ use dcv_project::Exists;
 use std::alloc::{AllocError, Global};
 use std::test::Fail;
 
-// Whether the machine's first state with no numbers more is that state.
+// Whether a copy of the machine's first state is that state.
 fn copies_its_start<M: Machine>(alloc: Global, machine: &M) -> Result<bool, AllocError> {
     let start = machine.start(alloc)?;
-    let copy = machine.extend(alloc, &start, &[])?;
+    let copy = machine.copy(alloc, &start)?;
     Ok(copy == start)
 }
 
