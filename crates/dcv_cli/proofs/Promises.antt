@@ -5,7 +5,10 @@ use Rattle.dcv_cli.proofs.Common.{IsTaken, request_of, Refusal, Open, Write, Mem
 use Rattle.dcv_cli.proofs.Common.{Output, OutOfMemory as Memory, EndsBy, HasInputCause, Tells, Outcome, Outside, ending, message_of, only}
 use Rattle.dcv_cli.proofs.Common.{status_of, is_open, is_read, AsksFor, Fulfilled, FulfilsOver, has_cause, is_answer, is_determined}
 use Rattle.dcv_cli.proofs.Common.{is_input, is_output}
-use Rattle.std.proofs.Common.{String, zero-le}
+use Rattle.std.proofs.Common.{String, true, zero-le}
+use Rattle.clap.specs.Words.{takes}
+use Rattle.dcv_command.specs.Program.{program}
+use Rattle.dcv_io.proofs.Asking.{asks_none}
 use Rattle.dcv_cli.specs.declared.refusal.Refusal.TheVariants.{Read}
 use Rattle.dcv_cli.specs.declared.refused.Refused.{Refused}
 use Rattle.dcv_cli.specs.Ending.{TellsCause}
@@ -60,6 +63,10 @@ cause_of old new faults count opened read OutOfMemory which _ _ none told =
     (message_of (only OutOfMemory), refl, subst (λ which. Tells (message_of (of OutOfMemory which)) old new faults count) none told)
 cause_of old new faults count opened read _ which _ _ none told = tt
 
+no_refusal_of_words : (P : Type 0) (status : Status) → status ≢ Usage → OnTrue (is_usage status) P
+no_refusal_of_words P Usage not = absurd (not refl)
+no_refusal_of_words P _ not = tt
+
 -- ---- the promise
 
 abbrev with_messages : Outside → Option (List ℕ) → ℕ → Seen
@@ -93,6 +100,7 @@ module _ {words : List (List ℕ)} {request : Request} (asked : AsksFor words re
         report = front_moved (right asked before.told) _ _ ends.front;
         usage = λ is taken. usage is;
         takes = λ is taken. usage is;
+        refusal = no_refusal_of_words _ (ending result) usage;
         asked = λ of. (request, asked);
         files = inr (request, asked, is.asked);
         calls = inr (request, asked, is.calls);
@@ -120,3 +128,27 @@ pub promise_of_answer : {words : List (List ℕ)} {request : Request} (asked : A
 promise_of_answer asked {written = written} status is =
     promise asked (Ok status) is (record { front = (0, zero-le, nothing_told written); whole = λ none. nothing_told written }) (on_true _ (nothing_told written))
     (rw (answer_is_none status is.ends.answer).cause tt)
+
+-- words that are refused are, in some words, and nothing else happens
+pub promise_of_misuse : (words : List (List ℕ)) (before : Outside) (old new : Option (List ℕ)) (faults count : ℕ) (text : List ℕ) → ¬ (IsTaken words)
+    → ¬ (takes program words ≡ true) → text ≢ [] → Tells text old new faults count
+    → Promise words Usage (with_messages before old faults) (with_messages before new count)
+promise_of_misuse words before old new faults count text not refused some told = record {
+  right = tt;
+  complete = λ taken none. absurd (not taken);
+  report = inl (nothing_told before.written);
+  usage = λ is. not;
+  takes = λ is. refused;
+  refusal = (text, some, told);
+  asked = λ of. absurd (true≢false (sym of));
+  files = inl (asks_none before.asked);
+  calls = inl refl;
+  input = (refl, refl);
+  output = refl;
+  cause = tt;
+  no_message = tt;
+  no_report = nothing_told before.written;
+  stops = tt;
+  left = tt;
+  held = refl;
+}

@@ -3,7 +3,7 @@
 --     Promise words ..   how a run of these words ends, between what is seen before it and after it
 --     not_utf8           what is said where the arguments of the process are no text
 use Rattle.std.specs.Bool.{OnTrue}
-use Rattle.std.specs.Prelude.{◌≡◌, ◌⊎◌, ℕ, true, List, [], Option, IsTrue, IsFalse, codes}
+use Rattle.std.specs.Prelude.{◌≡◌, ◌≢◌, ◌⊎◌, ℕ, true, List, [], Option, IsTrue, IsFalse, codes}
 use Rattle.dcv_io.specs.declared.files.Files.{Ghosts as WordsOfFiles}
 use Rattle.dcv_io.specs.declared.sink.Sink.{Ghosts as WordsOfSink}
 use Rattle.dcv_cli.specs.Common.{held_of, has_risen, RisesIf}
@@ -14,7 +14,7 @@ use Rattle.dcv_cli.specs.Ending.{EndsBy, AddsFront, StopsWithin, LeavesOver, Ask
 use Rattle.dcv_cli.specs.Outside.{Outside, outside}
 use Rattle.dcv_cli.specs.Request.{AsksFor}
 use Rattle.dcv_cli.specs.Right.{IsRightOver}
-use Rattle.dcv_cli.specs.Status.{is_answer, is_determined, is_input, is_of_request, is_output, is_silent}
+use Rattle.dcv_cli.specs.Status.{is_answer, is_determined, is_input, is_of_request, is_output, is_silent, is_usage}
 
 -- the files and the output, and the messages: what was written there, and how many writes have failed
 pub record Seen : Type 0 where
@@ -30,6 +30,9 @@ seen files_words out_words err_words files out err =
 -- this is the message, or a prefix of it where a write of it failed
 abbrev pub Says : Seen → Seen → List ℕ → Type 0
 Says before after message = Tells message before.messages after.messages before.message_faults after.message_faults
+
+abbrev pub SaysSomething : Seen → Seen → Type 0
+SaysSomething before after = (message : List ℕ) × (message ≢ []) × Says before after message
 
 -- no open, read or write has failed
 pub record NoFault (before after : Outside) : Type 0 where
@@ -47,6 +50,8 @@ pub record Promise (words : List (List ℕ)) (status : Status) (before after : S
   -- Words that are taken are never refused, and a run that does anything does what they ask for.
   pub usage : status ≡ Usage → ¬ (IsTaken words)
   pub takes : status ≡ Usage → ¬ (takes program words ≡ true)
+  -- A refusal of the words says something, and so does what is written where help is asked for.
+  pub refusal : OnTrue (is_usage status) (SaysSomething before after)
   pub asked : IsTrue (is_of_request status) → (request : Request) × AsksFor words request
   -- Each other status has its cause, and no cause is passed over.
   pub files : AsksFrontOf words before.outside.asked after.outside.asked
