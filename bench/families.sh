@@ -65,6 +65,8 @@
 #   stay as they are, a cache that is made when it is needed and numbers that are known by their places; with these `mixture 12` takes 263, `past 12` 123 and `arbiter 5 6` 363
 # With these the proved program takes 20.5 ms of `m14` where it took 22.9, and in turns of 60 to 80 runs with MONA 0.78 of its time of `mixture 12`, 0.96 and 0.97 of `past 12` (the program before, in the same hour: 1.08), 0.40 of `arbiter 5 6`.
 # Of `past 12` the memory is 3.8 MB now, in place of 6.1, and its time with it, since lists of operands that are not remembered take no pages.
+# With a verdict that is not minimised, rows of large sets that are made from those of smaller ones, and arenas that grow fourfold, on 1 December 2026: `arbiter 5 6` 229 (13.8 MB), `arbiter 6 5` 701 (41.3 MB),
+# `arbiter 8 3` 905 (44.9 MB), `handshake 40` 42, `layers 120` 71, `mixture 12` 196 (12.9 MB), `past 12` 80 (3.9 MB), `response 13` 387 (10.7 MB). Maps of the memo that grow fourfold too took 0.4 % less, and up to a quarter more memory.
 set -euo pipefail
 here=$(cd "$(dirname "$(readlink -f "${BASH_SOURCE[0]}")")" && pwd)
 program=${PROGRAM:-$here/../crates/dcvalid/out/dcvalid}
