@@ -1,5 +1,5 @@
 -- What is built of a core is what is right for the file that it is of.
-use Rattle.dcv_cli.proofs.Common.{◌≡◌, ℕ, ◌<◌, Bool, List, length, map, Result, Err, sym, ap, ◌∙◌, subst, arith}
+use Rattle.dcv_cli.proofs.Common.{◌≡◌, ℕ, ◌<◌, Bool, List, length, map, sym, ap, ◌∙◌, subst, arith}
 use Rattle.dcv_cli.proofs.Common.{slice_get, option_map, slice_get_within, HaveSameBehaviours, PlainFile, models}
 use Rattle.dcv_cli.proofs.Common.{CoreTree, core_of_file, words_of, WordsAreModels, steps_of, TableAcceptsAsTheStates, RawValue, Language}
 use Rattle.dcv_cli.proofs.Common.{IsRaw, raw_accepts, table_accepts, IsAuto, table_of_states, Limits, TooManyStates, TooManyNodes}

@@ -1,5 +1,5 @@
 -- The observer of a replay, and what is right for the trace after it.
-use Rattle.dcv_cli.proofs.Common.{◌≡◌, ◌≢◌, ◌≤◌, ◌+◌, ℕ, List, [], ◌∷◌, length, Option, Some, refl, sym, subst, ◌∙◌}
+use Rattle.dcv_cli.proofs.Common.{◌≡◌, ◌≢◌, ◌≤◌, ℕ, List, [], ◌∷◌, length, Option, Some, refl, sym, subst, ◌∙◌}
 use Rattle.dcv_cli.proofs.Common.{OnTrue, Asks, Disk, held_of, asks_in_turn, Replay, Subset, InLustre, InC, ObsFault, Observer}
 use Rattle.dcv_cli.proofs.Common.{KeepsTheRules, Texts, OnHeld, IsHeldText, IsFaultIn, IsRefusedObserver, IsObserverText}
 use Rattle.dcv_cli.proofs.Common.{Outcome, Outside, LeavesFor, most_observer_bytes, refusal_of_observer}

@@ -1,6 +1,6 @@
 -- The words ask for the request that was read, and what is done for it keeps the promise.
 use Rattle.dcv_command.specs.Seen.{asked_by, HasText, IsUsageOnlyWhere}
-use Rattle.dcv_cli.proofs.Common.{◌≡◌, ℕ, List, true, sym, ◌∙◌, subst, IsTaken}
+use Rattle.dcv_cli.proofs.Common.{◌≡◌, ℕ, List, true, sym, ap, ◌∙◌, subst, string_bytes, IsTaken}
 use Rattle.clap.specs.Words.{takes}
 use Rattle.dcv_command.specs.Program.{program}
 use Rattle.dcv_cli.specs.Outside.{outside}
@@ -30,5 +30,5 @@ returns-in-Err-Usage g c =
     promise_of_misuse c.args.words.now (outside g.F.Files g.O.Sink c.args.files.now c.args.out.now) old new faults count text
     (subst (λ (words : List (List ℕ)). ¬ (IsTaken words)) c.as_slice.ensures (subst (IsUsageOnlyWhere _) is given.usage))
     (subst (λ (words : List (List ℕ)). ¬ (takes program words ≡ true)) c.as_slice.ensures (subst (IsUsageOnlyWhere _) is given.passes))
-    (λ none. subst HasText is given.text (sym c.as_bytes.ensures.value ∙ none))
+    (λ none. subst HasText is given.text (sym (ap string_bytes c.in-Err-Usage.text-is) ∙ sym c.as_bytes.ensures.value ∙ none))
     (tells text old new faults count c.write_all.result c.write_all.ensures.ok c.write_all.ensures.failed c.write_all.ensures.faults)
