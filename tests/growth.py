@@ -14,7 +14,7 @@ import sys
 import tempfile
 
 HERE = os.path.dirname(os.path.dirname(os.path.abspath(__file__)))
-PROGRAM = os.path.abspath(sys.argv[1]) if len(sys.argv) > 1 else os.path.join(HERE, "dcvalid")
+PROGRAM = os.path.abspath(sys.argv[1]) if len(sys.argv) > 1 else os.path.join(HERE, "crates", "dcvalid", "out", "dcvalid")
 MOST = 600
 
 RESPONSE = "var request, grant; infer []({{request && !grant}} ^ [!grant] => slen <= 3);"
