@@ -7,6 +7,7 @@ pub mod Laws
 pub mod Numbers
 pub mod Given
 -- for proofs alone: what is explored, what is known of it, and what waits while steps are built
+pub mod Bounds
 pub mod Settled
 pub mod Asked
 pub mod Building

@@ -15,6 +15,7 @@
 #![tactic(auto)]
 
 mod asked;
+mod bounds;
 mod builder;
 mod building;
 mod faults;
