@@ -14,3 +14,5 @@ mod goals;
 mod memos;
 #[cfg(test)]
 mod printed;
+#[cfg(test)]
+mod verdicts;
