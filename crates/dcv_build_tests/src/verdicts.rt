@@ -27,6 +27,7 @@ fn texts(alloc: Global, raw: &Raw) -> Result<(String, Vec<u8>), Fail> {
 // One letter refuses, and three accept at the earliest, `p` at the first two. So the states of three letters, (2, 0) and (2, 1), are met and no more.
 const TABLE: &str =
     "reject 1 2; reject 1 2; reject 3 4; reject 3 4; reject 5 6; accept 0 0; accept 0 0";
+
 const VERDICT: &[u8] = b"not valid\nsatisfiable\ncounterexample 1\n0\nexample 3\n1\n1\n0\n";
 
 #[test]
@@ -35,7 +36,6 @@ fn an_atom_as_far_as_its_verdict_goes(rt: HostRuntime) -> Result<(), Fail> {
     let texts = texts(rt.alloc(), &raw);
     drop(raw);
     let (table, verdict) = texts?;
-    assert_eq!(rt; table.as_str(), TABLE);
-    assert_eq!(rt; verdict.as_slice(), VERDICT);
+    assert_eq!(rt; (table.as_str(), verdict.as_slice()), (TABLE, VERDICT));
     Ok(())
 }
