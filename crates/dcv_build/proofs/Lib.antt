@@ -9,6 +9,8 @@ mod Negation
 mod Operands
 mod OverLaws
 mod PostOrder
+mod ProductBounds
+mod ProductNodes
 pub mod Progress
 mod Recalled
 pub mod SameRows
