@@ -12,6 +12,7 @@ mod PostOrder
 pub mod Progress
 mod Recalled
 pub mod SameRows
+pub mod SameVerdicts
 mod Settled
 mod ShelfTables
 mod StepMachines

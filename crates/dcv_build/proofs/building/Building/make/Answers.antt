@@ -49,9 +49,10 @@ returns-in-Atom-clause-makes c =
     let taken = subst (λ (t : Task). now.waiting.items ≡ left ++ numbers_taken t) c.in-Atom.is c.task_of.ensures.taken in
     let new = c.make_atom.new.self in
     let is = subst (IsTask c.args.core.now c.args.step) c.in-Atom.is c.task_of.ensures.is in
+    let atom = atom_here c.args.core.now c.args.step is.0 c.requires.core is.1 in
     subst (λ (known : KnownValue). ForTree c.args.core.now (λ steps. Makes steps now.known.limits c.args.step (tables_at known.tables new.waiting.items) now.counts.items c.make_atom.result))
     (sym c.make_atom.ensures.known)
     (subst (λ (w : List ℕ). ForTree c.args.core.now (λ steps. Makes steps now.known.limits c.args.step (tables_at now.known.tables w) now.counts.items c.make_atom.result))
     (taken ∙ append-nil left ∙ (λ i. (sym c.make_atom.ensures.waiting i).items))
-    (atom_makes_on c.args.core.now now.known.limits c.args.step now.counts.items now.known.tables now.waiting.items c.requires.built.built is.0
-    c.machines_accept_steps.ensures.step is.1 c.make_atom.result (c.make_atom.ensures.settles is.0)))
+    (atom_makes_on c.args.core.now now.known.limits c.args.step now.counts.items now.known.tables now.waiting.items c.requires.built.built atom.0 atom.1
+    c.machines_accept_steps.ensures.step atom.2 c.make_atom.result (c.make_atom.ensures.settles atom.0 atom.1 atom.2)))
