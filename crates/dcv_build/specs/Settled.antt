@@ -5,9 +5,9 @@
 --     HasExplored                       that automaton beside its exact counts
 --     IsLeastOf raw auto                the canonical automaton of what a raw one accepts
 --     IsLeastMade explored made         that of what was explored, beside the same counts
---     IsServing                         an automaton for a machine that is within the limits: the canonical one of what it accepts is the machine's
 --     HasExploredVerdict                an automaton with the verdict of a machine, as large as the limits allow at most
 --     IsDeciding                        the same of a machine that is within the limits itself: there is a canonical automaton of what it accepts
+--     IsServing                         such a one that also accepts all that the machine does, beside the machine's counts
 --     IsPassed machine parts limits step fault   the fault is at this step, whose machine passes the limit
 --     SettlesTo IsGiven                 what a call answers that explores a machine for a step: what is so, or that the machine is over a limit
 --     Settles, Serves, Decides          the same, where it gives what was explored, any automaton that serves, and any that decides
@@ -84,13 +84,6 @@ pub record HasExplored {S : Type 0} (machine : WorkingMachine S) (parts : ℕ) (
   pub states_are : explored.states ≡ length explored.raw.rows
   pub nodes_are : explored.nodes ≡ parts + length explored.raw.arena.nodes
 
--- what is explored for the machine serves, and so does the canonical automaton itself
-pub record IsServing {S : Type 0} (machine : WorkingMachine S) (parts : ℕ) (limits : Limits) (explored : Explored) : Type 0 where
-  pub some : (auto : RawValue) × IsLeastOf explored.raw auto
-  pub each : (auto : RawValue) → IsLeastOf explored.raw auto → IsBuilt machine parts limits (table_of_auto auto) explored.states explored.nodes
-  pub states : length explored.raw.rows ≤ limits.states
-  pub nodes : length explored.raw.arena.nodes ≤ limits.nodes
-
 pub record HasExploredVerdict {S : Type 0} (machine : WorkingMachine S) (limits : Limits) (explored : Explored) : Type 0 where
   pub raw : IsRaw explored.raw
   pub of_machine : HasVerdictOf machine explored.raw
@@ -111,6 +104,11 @@ pub record IsDeciding {S : Type 0} (machine : WorkingMachine S) (parts : ℕ) (l
   pub verdict : HaveSameVerdict auto.arena.slots (raw_accepts explored.raw) (raw_accepts auto)
   pub states : length explored.raw.rows ≤ limits.states
   pub nodes : length explored.raw.arena.nodes ≤ limits.nodes
+
+-- what is explored for the machine serves, and so does the canonical automaton itself
+pub record IsServing {S : Type 0} (machine : WorkingMachine S) (parts : ℕ) (limits : Limits) (explored : Explored) : Type 0 where
+  pub decides : IsDeciding machine parts limits explored
+  pub each : (auto : RawValue) → IsLeastOf explored.raw auto → IsBuilt machine parts limits (table_of_auto auto) explored.states explored.nodes
 
 abbrev pub IsPassed : {S : Type 0} → WorkingMachine S → ℕ → Limits → ℕ → BuildFault → Type 0
 IsPassed machine parts limits step (States at limit) = (at ≡ step) × (limit ≡ limits.states) × Passes TooManyStates machine parts limits
