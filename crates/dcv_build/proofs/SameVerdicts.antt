@@ -2,7 +2,7 @@
 use Rattle.std.proofs.Common.{◌≡◌, ◌≤◌, ℕ, Bool, true, false, not, Option, None, Some, length, inl, inr, refl, sym, ap, ◌∙◌, arith}
 use Rattle.std.specs.Prelude.{IsTrue}
 use Rattle.std.proofs.lemmas.Bool.{cases_lt, false≢true}
-use Rattle.dcv_word.specs.Behaviour.{Word, IsBehaviour}
+use Rattle.dcv_word.specs.Behaviour.{Word}
 use Rattle.dcv_language.specs.Language.{Language, HaveSameBehaviours, outside}
 use Rattle.dcv_language.specs.Verdict.{IsLeastOf}
 use Rattle.dcv_language.proofs.Least.{verdict_of_same_behaviours}

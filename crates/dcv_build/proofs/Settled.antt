@@ -3,7 +3,6 @@ use Rattle.std.proofs.Common.{◌≡◌, ◌⊎◌, inl, inr, ℕ, ◌+◌, ◌-
 use Rattle.dcv_arena.proofs.Counts.{count_exact}
 use Rattle.dcv_language.specs.Automaton.{WorkingMachine, accepts}
 use Rattle.dcv_language.specs.Canonical.{IsCanonical}
-use Rattle.dcv_language.specs.Language.{HaveSameBehaviours}
 use Rattle.dcv_language.proofs.Canonicals.{canonical_for_same_behaviours}
 use Rattle.dcv_dfa.specs.Raw.{RawValue, IsRaw, raw_accepts}
 use Rattle.dcv_dfa.specs.Auto.{table_of_states}
@@ -24,7 +23,7 @@ use Rattle.dcv_quotient.proofs.TableBounds.{within_of_row}
 use Rattle.dcv_quotient.proofs.WordOrder.{word_laws}
 use Rattle.dcv_build.specs.Bounds.{CannotExceed}
 use Rattle.dcv_build.specs.Rows.{pair_row}
-use Rattle.dcv_build.specs.Settled.{IsLeastOf, IsBuilt, IsExploredWithin, HasExplored, IsServing, HasExploredVerdict, IsDeciding, IsPassed, Settles, Serves, Decides}
+use Rattle.dcv_build.specs.Settled.{IsLeastOf, IsBuilt, IsExploredWithin, HasExplored, IsServing, IsDeciding, IsPassed, Settles, Serves, Decides}
 use Rattle.dcv_build.specs.Settled.{ExploresUpTo, SettlesUpTo, fault_at}
 use Rattle.dcv_build.specs.declared.settling.Explored.{Explored}
 use Rattle.dcv_build.specs.declared.settling.Extent.{Extent}

@@ -140,11 +140,9 @@ impl Known {
         ensures same { self.new ≡ self.old }
         ensures decides { DecidesAsked self.old.tables asked self.old.limits step result }
     {
-        if self.is_within(asked) {
-            if self.find(asked).is_none() {
-                self.count();
-                return self.explore(asked, step, Extent::Verdict);
-            }
+        if self.is_within(asked) && self.find(asked).is_none() {
+            self.count();
+            return self.explore(asked, step, Extent::Verdict);
         }
         self.make(asked, step)
     }

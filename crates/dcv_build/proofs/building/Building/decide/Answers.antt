@@ -1,13 +1,12 @@
 use Rattle.std.proofs.Common.{[], subst}
 use Rattle.dcv_atoms.specs.AtomRows.{atom_machine}
 use Rattle.dcv_atoms.specs.Parts.{atom_nodes}
-use Rattle.dcv_core.specs.Core.{PlainBasic}
 use Rattle.dcv_core.specs.Steps.{OpAtom}
 use Rattle.dcv_explore.specs.declared.explorer.Limits.{Limits}
 use Rattle.dcv_build.specs.Asked.{asked_row, tables_at}
 use Rattle.dcv_build.specs.Building.{DecidesStep}
 use Rattle.dcv_build.specs.Rows.{row_of}
-use Rattle.dcv_build.specs.Tasks.{IsTask, op_like}
+use Rattle.dcv_build.specs.Tasks.{op_like}
 use Rattle.dcv_build.proofs.AtSteps.{atom_here, atom_op, operands_at, leads_on, atom_leads_on}
 use Rattle.dcv_build.proofs.Settled.{settled_serves, serves_decides}
 use Rattle.dcv_build.proofs.Turning.{decides_step}
