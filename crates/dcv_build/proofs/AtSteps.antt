@@ -2,7 +2,7 @@
 use Rattle.std.proofs.Common.{◌≡◌, ℕ, suc, ◌+◌, ◌-◌, ◌<◌, List, [], ◌∷◌, ◌++◌, length, get_or, reverse, Some, slice_get, Result, Ok, refl, sym, ap, subst, ◌∙◌, arith}
 use Rattle.std.specs.Option.{option_map}
 use Rattle.std.proofs.lemmas.List.{length-map, map-append, append-nil}
-use Rattle.std.proofs.lemmas.Option.{slice_get-map}
+use Rattle.std.proofs.lemmas.Option.{slice_get-map, same_Some}
 use Rattle.dcv_language.specs.declared.count.Count.{Count}
 use Rattle.dcv_language.specs.Language.{Language, outside}
 use Rattle.dcv_language.specs.Laws.{OneCanonicalTable}
@@ -32,12 +32,12 @@ use Rattle.dcv_build.specs.Building.{AreWaiting, HasBuilt, IsNext, Goes, Makes, 
 use Rattle.dcv_build.specs.Given.{IsCoreOf, IsCore}
 use Rattle.dcv_build.specs.Rows.{pair_row, chop_row, star_row, set_row, row_of}
 use Rattle.dcv_build.specs.Tasks.{Here, op_like, numbers_of}
-use Rattle.dcv_build.specs.Settled.{IsOwn, IsBuilt, Settles, Serves, Answers}
+use Rattle.dcv_build.specs.Settled.{IsOwn, IsBuilt, IsPassed, Settles, Answers}
 use Rattle.dcv_build.proofs.Answered.{plain_at}
 use Rattle.dcv_build.proofs.Negation.{complement_is_built}
 use Rattle.dcv_build.proofs.Operands.{step_at, one_operand, two_operands}
 use Rattle.dcv_build.proofs.PostOrder.{IsAfterOne, IsAfterTwo, IsAfterOperands, after_operands}
-use Rattle.dcv_build.proofs.Progress.{next_of, goes, makes}
+use Rattle.dcv_build.proofs.Progress.{Leads, next_of, leads, goes, makes}
 use Rattle.dcv_build.proofs.SameRows.{table_at}
 use Rattle.dcv_build.proofs.Settled.{settled_serves}
 use Rattle.dcv_build.proofs.ShelfTables.{at_of, tables_kept, front_there, behind_there}
@@ -56,6 +56,9 @@ pub atom_here : (core : PlainCore) (n : ℕ) (basic : PlainBasic) → IsCore cor
 atom_here core n basic known here =
     let found = step_at core known.tree n (OpAtom basic) known.is here in
     (basic, found.0.slots, atom_at core known.tree n basic found.0 known.is found.1 found.2)
+
+pub atom_op : (core : PlainCore) (n : ℕ) (basic : PlainBasic) (slots : ℕ) → IsAtom core n basic slots → Here core n (OpAtom basic)
+atom_op core n basic slots atom = ap (option_map (λ (s : CoreStep). s.op)) atom.there ∙ ap Some atom.form
 
 -- ---- an operator of a core, and the same over numbers of the shelf
 
@@ -202,20 +205,22 @@ module _ (k : ℕ) (tree : CoreTree) (limits : Limits) (n : ℕ) (shelf : List S
   all_wait built = subst (λ (w : List ShelfTable). AreWaiting (steps_of k tree) limits built.tables n (reverse w)) (append-nil (tables_at shelf rest)) built.waits
 
   module _ (atoms : MachineAcceptsAtomStep) where
-    -- the automaton of the step, on no shelf
-    pub asked_makes : (asked : Asked) (c d : ℕ) → step.op ≡ op_like asked c d → AreThere shelf (numbers_of asked) → Built (numbers_of asked)
-        → (result : Result Explored BuildFault) → ServesAsked shelf asked limits n result → Makes (steps_of k tree) limits n (tables_at shelf rest) counts result
-    asked_makes asked c d is all built result serves =
+    -- the machine over the numbers leads on
+    pub asked_leads : (asked : Asked) (c d : ℕ) → step.op ≡ op_like asked c d → AreThere shelf (numbers_of asked) → Built (numbers_of asked)
+        → Leads (steps_of k tree) limits n (tables_at shelf rest) counts (asked_row shelf asked).machine (asked_row shelf asked).parts
+    asked_leads asked c d is all built =
         let has = takes asked c d is all built in
-        makes k tree limits n built.tables built.count built.done step there (tables_at shelf rest) counts built.one_each built.each has.begin has.begins has.waits atoms result
-        (own_row (λ (row : Row). Serves row.machine row.parts limits n result) asked c d is all built serves)
+        let own = leads k tree limits n built.tables built.count built.done step there (tables_at shelf rest) counts built.one_each built.each has.begin has.begins has.waits atoms in
+        record {
+          next = λ one states nodes of_asked. own.next one states nodes (own_row (λ (row : Row). IsBuilt row.machine row.parts limits one states nodes) asked c d is all built of_asked);
+          over = λ fault passed. own.over fault (own_row (λ (row : Row). IsPassed row.machine row.parts limits n fault) asked c d is all built passed);
+        }
 
-    pub atom_makes : (basic : PlainBasic) → step.op ≡ OpAtom basic → Built [] → (result : Result Explored BuildFault)
-        → Settles (atom_machine step.slots basic) (atom_nodes step.slots basic) limits n result → Makes (steps_of k tree) limits n (tables_at shelf rest) counts result
-    atom_makes basic is built result settles =
-        makes k tree limits n built.tables built.count built.done step there (tables_at shelf rest) counts built.one_each built.each n (none_begins basic is) (all_wait built) atoms result
-        (settled_serves (row_of step.op step.slots built.tables) limits n result
-        (subst (λ (o : PlainOp). Settles (row_of o step.slots built.tables).machine (row_of o step.slots built.tables).parts limits n result) (sym is) settles))
+    pub atom_leads : (basic : PlainBasic) → step.op ≡ OpAtom basic → Built []
+        → Leads (steps_of k tree) limits n (tables_at shelf rest) counts (atom_machine step.slots basic) (atom_nodes step.slots basic)
+    atom_leads basic is built =
+        subst (λ (o : PlainOp). Leads (steps_of k tree) limits n (tables_at shelf rest) counts (row_of o step.slots built.tables).machine (row_of o step.slots built.tables).parts) is
+        (leads k tree limits n built.tables built.count built.done step there (tables_at shelf rest) counts built.one_each built.each n (none_begins basic is) (all_wait built) atoms)
 
     module _ (after : List ShelfTable) (kept : KeepsNumbers shelf after) (rest_there : AreThere shelf rest) where
       -- what waits does so on the shelf that has grown
@@ -225,17 +230,14 @@ module _ (k : ℕ) (tree : CoreTree) (limits : Limits) (n : ℕ) (shelf : List S
       pub asked_goes : (asked : Asked) (c d : ℕ) → step.op ≡ op_like asked c d → AreThere shelf (numbers_of asked) → Built (numbers_of asked)
           → (result : Result Answer BuildFault) → AnswersAsked shelf asked limits n after result → Goes (steps_of k tree) limits n (tables_at after rest) counts after result
       asked_goes asked c d is all built result answers =
-          let has = takes asked c d is all built in
           grown result
-          (goes k tree limits n built.tables built.count built.done step there (tables_at shelf rest) counts built.one_each built.each has.begin has.begins has.waits atoms after result
-          (own_row (λ (row : Row). Answers row.machine row.parts limits n after result) asked c d is all built answers))
+          (goes (steps_of k tree) limits n (tables_at shelf rest) counts (asked_row shelf asked).machine (asked_row shelf asked).parts (asked_leads asked c d is all built) after result answers)
 
       pub atom_goes : (basic : PlainBasic) → step.op ≡ OpAtom basic → Built [] → (result : Result Answer BuildFault)
           → Answers (atom_machine step.slots basic) (atom_nodes step.slots basic) limits n after result → Goes (steps_of k tree) limits n (tables_at after rest) counts after result
       atom_goes basic is built result answers =
           grown result
-          (goes k tree limits n built.tables built.count built.done step there (tables_at shelf rest) counts built.one_each built.each n (none_begins basic is) (all_wait built) atoms after result
-          (subst (λ (o : PlainOp). Answers (row_of o step.slots built.tables).machine (row_of o step.slots built.tables).parts limits n after result) (sym is) answers))
+          (goes (steps_of k tree) limits n (tables_at shelf rest) counts (atom_machine step.slots basic) (atom_nodes step.slots basic) (atom_leads basic is built) after result answers)
 
       pub not_goes : OneCanonicalTable → (a d : ℕ) → step.op ≡ OpNot d → Built (a ∷ []) → (answer : Answer) → IsTurned (at_number shelf a) after answer
           → Goes (steps_of k tree) limits n (tables_at after rest) counts after (Ok answer)
@@ -326,11 +328,15 @@ module _ (core : PlainCore) (limits : Limits) (n : ℕ) (counts : List Count) wh
           asked_goes core.declared tree limits n shelf rest counts found.0 found.1 atoms after kept (rest_are (numbers_of asked) same) asked c d found.2
           (numbers_are (numbers_of asked) same) (taken (numbers_of asked) same tree is) result answers
 
+      pub leads_on : MachineAcceptsAtomStep → Here core n (op_like asked c d)
+          → ForTree core (λ steps. Leads steps limits n (tables_at shelf rest) counts (asked_row shelf asked).machine (asked_row shelf asked).parts)
+      leads_on atoms here tree is =
+          let found = step_at core tree n (op_like asked c d) is here in
+          asked_leads core.declared tree limits n shelf rest counts found.0 found.1 atoms asked c d found.2 (numbers_are (numbers_of asked) same) (taken (numbers_of asked) same tree is)
+
       pub makes_on : MachineAcceptsAtomStep → Here core n (op_like asked c d) → (result : Result Explored BuildFault) → ServesAsked shelf asked limits n result → MakesOn (tables_at shelf rest) result
       makes_on atoms here result serves tree is =
-          let found = step_at core tree n (op_like asked c d) is here in
-          asked_makes core.declared tree limits n shelf rest counts found.0 found.1 atoms asked c d found.2
-          (numbers_are (numbers_of asked) same) (taken (numbers_of asked) same tree is) result serves
+          makes (steps_of core.declared tree) limits n (tables_at shelf rest) counts (asked_row shelf asked).machine (asked_row shelf asked).parts (leads_on atoms here tree is) result serves
 
     module _ (a d : ℕ) (same : old ≡ rest ++ a ∷ []) where
       pub not_goes_on : MachineAcceptsAtomStep → OneCanonicalTable → Here core n (OpNot d) → (after : List ShelfTable) → KeepsNumbers shelf after
@@ -350,11 +356,21 @@ module _ (core : PlainCore) (limits : Limits) (n : ℕ) (counts : List Count) wh
       (subst (λ (w : List ShelfTable). HasBuilt (steps_of core.declared tree) limits n w counts) (sym (append-nil (tables_at shelf old))) (built tree is)) result
       (answers found.0.slots (atom_at core tree n basic found.0 is found.1 found.2))
 
-  pub atom_makes_on : (shelf : List ShelfTable) (old : List ℕ) (built : AreBuilt (tables_at shelf old)) (basic : PlainBasic)
-      → MachineAcceptsAtomStep → Here core n (OpAtom basic) → (result : Result Explored BuildFault)
-      → ((slots : ℕ) → IsAtom core n basic slots → Settles (atom_machine slots basic) (atom_nodes slots basic) limits n result) → MakesOn (tables_at shelf old) result
-  atom_makes_on shelf old built basic atoms here result settles tree is =
-      let found = step_at core tree n (OpAtom basic) is here in
-      atom_makes core.declared tree limits n shelf old counts found.0 found.1 atoms basic found.2
-      (subst (λ (w : List ShelfTable). HasBuilt (steps_of core.declared tree) limits n w counts) (sym (append-nil (tables_at shelf old))) (built tree is)) result
-      (settles found.0.slots (atom_at core tree n basic found.0 is found.1 found.2))
+  pub atom_leads_on : (shelf : List ShelfTable) (old : List ℕ) (built : AreBuilt (tables_at shelf old)) (basic : PlainBasic) (slots : ℕ)
+      → MachineAcceptsAtomStep → IsAtom core n basic slots
+      → ForTree core (λ steps. Leads steps limits n (tables_at shelf old) counts (atom_machine slots basic) (atom_nodes slots basic))
+  unfolding atom_at
+  atom_leads_on shelf old built basic slots atoms atom tree is =
+      let found = step_at core tree n (OpAtom basic) is (atom_op core n basic slots atom) in
+      let own = atom_at core tree n basic found.0 is found.1 found.2 in
+      let same = ap (λ (s : CoreStep). s.slots) (same_Some own.own atom.own (sym own.there ∙ atom.there)) ∙ atom.width in
+      subst (λ width. Leads (steps_of core.declared tree) limits n (tables_at shelf old) counts (atom_machine width basic) (atom_nodes width basic)) same
+      (atom_leads core.declared tree limits n shelf old counts found.0 found.1 atoms basic found.2
+      (subst (λ (w : List ShelfTable). HasBuilt (steps_of core.declared tree) limits n w counts) (sym (append-nil (tables_at shelf old))) (built tree is)))
+
+  pub atom_makes_on : (shelf : List ShelfTable) (old : List ℕ) (built : AreBuilt (tables_at shelf old)) (basic : PlainBasic) (slots : ℕ)
+      → MachineAcceptsAtomStep → IsAtom core n basic slots → (result : Result Explored BuildFault)
+      → Settles (atom_machine slots basic) (atom_nodes slots basic) limits n result → MakesOn (tables_at shelf old) result
+  atom_makes_on shelf old built basic slots atoms atom result settles tree is =
+      makes (steps_of core.declared tree) limits n (tables_at shelf old) counts (atom_machine slots basic) (atom_nodes slots basic)
+      (atom_leads_on shelf old built basic slots atoms atom tree is) result (settled_serves (row_of (OpAtom basic) slots []) limits n result settles)

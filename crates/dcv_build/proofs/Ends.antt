@@ -5,20 +5,22 @@ use Rattle.dcv_language.specs.declared.count.Count.{Count}
 use Rattle.dcv_core.specs.Core.{CoreTree}
 use Rattle.dcv_core.specs.Holds.{words_of}
 use Rattle.dcv_core.specs.Steps.{PlainCore, steps_of}
-use Rattle.dcv_dfa.specs.Raw.{RawValue}
-use Rattle.dcv_language.specs.Language.{Language, HaveSameBehaviours}
-use Rattle.dcv_language.specs.Table.{table_accepts}
-use Rattle.dcv_dfa.specs.Auto.{table_of_states, count_of_nodes}
+use Rattle.dcv_dfa.specs.Raw.{RawValue, raw_accepts}
+use Rattle.dcv_language.specs.Language.{Language}
+use Rattle.dcv_dfa.specs.Auto.{count_of_nodes}
+use Rattle.dcv_word.specs.Behaviour.{IsBehaviour}
 use Rattle.dcv_explore.specs.declared.explorer.Limits.{Limits}
+use Rattle.dcv_explore.specs.Verdict.{HaveSameVerdict}
 use Rattle.dcv_shelf.specs.Shelf.{ShelfTable, table_of_auto}
 use Rattle.dcv_build.specs.declared.builder.Built.{Built}
 use Rattle.dcv_build.specs.declared.building.Building.{Building}
 use Rattle.dcv_build.specs.declared.faults.BuildFault.{BuildFault}
 use Rattle.dcv_build.specs.Asked.{tables_at, AreThere}
-use Rattle.dcv_build.specs.Budget.{IsWithinBudget, IsFaultOver, IsAutomatonOf, accepted_by, IsRawOf, Builds}
-use Rattle.dcv_build.specs.Building.{HasBuilt, IsBuilding, IsGoal, IsRawGoal}
+use Rattle.dcv_build.specs.Budget.{IsWithinBudget, IsFaultOver, IsAutomatonOf, accepted_by, HasVerdictOfSet, Builds}
+use Rattle.dcv_build.specs.Building.{HasBuilt, IsBuilding, IsGoal, IsVerdictGoal}
 use Rattle.dcv_build.specs.Counts.{AreCounts}
 use Rattle.dcv_build.specs.Given.{IsCoreOf, IsCore}
+use Rattle.dcv_build.proofs.SameVerdicts.{same_verdict_after}
 use Rattle.dcv_build.proofs.Waiting.{none_built, goal_is, goal_within, goal_counts, goal_states, goal_nodes}
 
 pub fresh_building : (core : PlainCore) (new : Building) → new.known.tables ≡ [] → new.waiting.items ≡ [] → new.counts.items ≡ [] → IsBuilding core 0 new
@@ -71,23 +73,21 @@ builds_none {core} {limits} (Err given) own over same = record {
   over = λ tree is. subst (IsFaultOver (steps_of core.declared tree) limits) (sym same) (over tree is);
 }
 
--- ---- what is not minimised
+-- ---- what is built for a verdict
 
-module _ (core : PlainCore) (limits : Limits) (raw : RawValue) (complemented : Bool) (is : IsRawGoal core limits (length core.steps) raw complemented) (tree : CoreTree) (of_core : IsCoreOf tree core) where
-  pub raw_is : IsRawOf core.declared (words_of tree) raw complemented
-  raw_is =
+module _ (core : PlainCore) (limits : Limits) (raw : RawValue) (complemented : Bool) (is : IsVerdictGoal core limits (length core.steps) raw complemented) (tree : CoreTree) (of_core : IsCoreOf tree core) where
+  pub verdict_is : HasVerdictOfSet core.declared (words_of tree) raw complemented
+  verdict_is =
       let auto = is.auto in
       let own = is.auto_is in
       let of = built_is core limits auto is.counts is.goal tree of_core in
       let slots : auto.arena.slots ≡ core.declared = of.slots in
-      let accepts : HaveSameBehaviours auto.arena.slots (accepted_by raw complemented) (table_accepts (table_of_states auto)) =
-      λ word b. is.accepts word b ∙ sym (own.canonical.exact word b) in
       record {
         slots = is.slots ∙ slots;
-        accepts = λ word b.
-            subst (λ k. HaveSameBehaviours k (accepted_by raw complemented) (table_accepts (table_of_states auto))) slots accepts word b
-            ∙ of.canonical.exact word b;
+        verdict = same_verdict_after core.declared (accepted_by raw complemented) (raw_accepts auto) (words_of tree)
+            (subst (λ k. HaveSameVerdict k (accepted_by raw complemented) (raw_accepts auto)) slots is.verdict)
+            (λ word b. sym (own.canonical.exact word (subst (λ k. IsBehaviour k word) (sym slots) b)) ∙ of.canonical.exact word b);
       }
 
-  pub raw_within : IsWithinBudget (steps_of core.declared tree) limits
-  raw_within = built_within core limits is.auto is.counts is.goal tree of_core
+  pub verdict_within : IsWithinBudget (steps_of core.declared tree) limits
+  verdict_within = built_within core limits is.auto is.counts is.goal tree of_core

@@ -14,6 +14,7 @@ mod ProductNodes
 pub mod Progress
 mod Recalled
 pub mod SameRows
+pub mod SameVerdicts
 mod Settled
 mod ShelfTables
 mod StepMachines

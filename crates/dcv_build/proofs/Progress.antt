@@ -1,12 +1,11 @@
 -- One step more is built: its table stands after the others and waits after those that it did not take, and its counts stand after
 -- the others.
-use Rattle.std.proofs.Common.{◌≡◌, ℕ, zero, suc, ◌+◌, ◌<◌, ◌≤◌, List, [], ◌∷◌, ◌++◌, length, reverse, Some, slice_get, Result, Ok, Err, IfOk, inl, inr, refl, sym, ap, subst, ◌∙◌, arith, length-append}
+use Rattle.std.proofs.Common.{◌≡◌, ℕ, zero, suc, ◌+◌, ◌<◌, ◌≤◌, List, [], ◌∷◌, ◌++◌, length, reverse, Some, slice_get, Result, Ok, Err, inl, inr, refl, sym, ap, subst, ◌∙◌, arith, length-append}
 use Rattle.std.proofs.lemmas.List.{reverse-append}
 use Rattle.std.proofs.lemmas.Option.{slice_get_within, slice_get-get_or}
-use Rattle.std.proofs.lemmas.Result.{IfErr-weaker}
 use Rattle.dcv_language.specs.declared.count.Count.{Count}
 use Rattle.dcv_word.specs.Behaviour.{Word}
-use Rattle.dcv_language.specs.Automaton.{accepts}
+use Rattle.dcv_language.specs.Automaton.{WorkingMachine, accepts}
 use Rattle.dcv_language.specs.Canonical.{IsCanonical}
 use Rattle.dcv_language.specs.Language.{HaveSameBehaviours}
 use Rattle.dcv_language.specs.Table.{Table}
@@ -29,11 +28,11 @@ use Rattle.dcv_build.specs.declared.faults.BuildFault.{BuildFault}
 use Rattle.dcv_build.specs.declared.faults.BuildFault.TheVariants.{States, Nodes, Memory}
 use Rattle.dcv_build.specs.declared.settling.Explored.{Explored}
 use Rattle.dcv_build.specs.Budget.{row_at, IsStepDone, IsDone, IsOver, IsFaultOver}
-use Rattle.dcv_build.specs.Building.{IsNewest, AreWaiting, HasBuilt, IsNext, GoesWith, MakesNext, Goes, Makes}
+use Rattle.dcv_build.specs.Building.{IsNewest, AreWaiting, HasBuilt, IsNext, Goes, Makes}
 use Rattle.dcv_build.specs.Counts.{HasAllCounts, IsCount}
 use Rattle.dcv_build.specs.Laws.{AreCanonicalBefore}
 use Rattle.dcv_build.specs.Rows.{row_of}
-use Rattle.dcv_build.specs.Settled.{IsOwn, IsBuilt, IsServing, IsPassed, Serves, IsFor, Answers}
+use Rattle.dcv_build.specs.Settled.{IsOwn, IsBuilt, IsPassed, Serves, Answers}
 use Rattle.dcv_build.proofs.SameRows.{table_at, row_over}
 use Rattle.dcv_build.proofs.ShelfTables.{at_of}
 use Rattle.dcv_build.proofs.StepMachines.{machine_accepts_step}
@@ -104,6 +103,11 @@ row_slots (OpStar d) slots tables = refl
 row_slots (OpExists d) slots tables = refl
 
 -- ---- one step more
+
+-- with a table of this machine step n is built, and where the machine is over the limits the step is the first that is
+pub record Leads (steps : List PlainStep) (limits : Limits) (n : ℕ) (waiting : List ShelfTable) (counts : List Count) {S : Type 0} (machine : WorkingMachine S) (parts : ℕ) : Type 0 where
+  pub next : (one : ShelfTable) (states nodes : ℕ) → IsBuilt machine parts limits one states nodes → IsNext steps limits n waiting counts one states nodes
+  pub over : (fault : BuildFault) → IsPassed machine parts limits n fault → IsFaultOver steps limits fault
 
 module _ (k : ℕ) (tree : CoreTree) (limits : Limits) (n : ℕ) (tables : List Table) (size : length tables ≡ n) (done : IsDone (steps_of k tree) limits tables)
     (step : PlainStep) (there : slice_get (steps_of k tree) n ≡ Some step) where
@@ -227,37 +231,28 @@ module _ (k : ℕ) (tree : CoreTree) (limits : Limits) (n : ℕ) (tables : List 
                 (subst (HasAllCounts machine (row_at step tables).parts states) (sym own.nodes_are) built.counts);
           })
 
-      -- the answer stands on a shelf
-      module _ (shelf : List ShelfTable) where
-        built_of : (answer : Answer) → IsFor (row_at step tables).machine (row_at step tables).parts limits shelf answer → GoesWith (steps_of k tree) limits n rest counts shelf answer
-        built_of answer is =
-            subst (λ (one : ShelfTable). IsNext (steps_of k tree) limits n rest counts one answer.states answer.nodes) (sym (at_of shelf answer.number is.one is.there))
-            (next_of is.one answer.states answer.nodes is.built)
+      pub leads : Leads (steps_of k tree) limits n rest counts (row_at step tables).machine (row_at step tables).parts
+      leads = record { next = next_of; over = over_is_first }
 
-        goes_where_ok : (result : Result Answer BuildFault) → IfOk result (IsFor (row_at step tables).machine (row_at step tables).parts limits shelf)
-            → IfOk result (GoesWith (steps_of k tree) limits n rest counts shelf)
-        goes_where_ok (Ok answer) is = built_of answer is
-        goes_where_ok (Err fault) is = tt
+-- ---- what a call answers that gives a table of the step's machine
 
-        pub goes : (result : Result Answer BuildFault) → Answers (row_at step tables).machine (row_at step tables).parts limits n shelf result → Goes (steps_of k tree) limits n rest counts shelf result
-        goes result answers = record {
-          built = goes_where_ok result answers.built;
-          over = IfErr-weaker result (IsPassed (row_at step tables).machine (row_at step tables).parts limits n) (IsFaultOver (steps_of k tree) limits) over_is_first answers.over;
-        }
-
-      -- it is not minimised
-      makes_where_ok : (result : Result Explored BuildFault) → IfOk result (IsServing (row_at step tables).machine (row_at step tables).parts limits)
-          → IfOk result (MakesNext (steps_of k tree) limits n rest counts)
-      makes_where_ok (Ok explored) is = record {
-        some = is.some;
-        each = λ auto least. next_of (table_of_auto auto) explored.states explored.nodes (is.each auto least);
-        states = is.states;
-        nodes = is.nodes;
+module _ (steps : List PlainStep) (limits : Limits) (n : ℕ) (waiting : List ShelfTable) (counts : List Count) {S : Type 0} (machine : WorkingMachine S) (parts : ℕ)
+    (leads : Leads steps limits n waiting counts machine parts) where
+  -- on a shelf
+  pub goes : (shelf : List ShelfTable) (result : Result Answer BuildFault) → Answers machine parts limits n shelf result → Goes steps limits n waiting counts shelf result
+  goes shelf (Ok answer) answers =
+      let is = answers.built in
+      record {
+        built = subst (λ (one : ShelfTable). IsNext steps limits n waiting counts one answer.states answer.nodes) (sym (at_of shelf answer.number is.one is.there))
+            (leads.next is.one answer.states answer.nodes is.built);
+        over = tt;
       }
-      makes_where_ok (Err fault) is = tt
+  goes shelf (Err fault) answers = record { built = tt; over = leads.over fault answers.over }
 
-      pub makes : (result : Result Explored BuildFault) → Serves (row_at step tables).machine (row_at step tables).parts limits n result → Makes (steps_of k tree) limits n rest counts result
-      makes result serves = record {
-        built = makes_where_ok result serves.built;
-        over = IfErr-weaker result (IsPassed (row_at step tables).machine (row_at step tables).parts limits n) (IsFaultOver (steps_of k tree) limits) over_is_first serves.over;
-      }
+  -- once minimised
+  pub makes : (result : Result Explored BuildFault) → Serves machine parts limits n result → Makes steps limits n waiting counts result
+  makes (Ok explored) serves = record {
+    built = λ auto least. leads.next (table_of_auto auto) explored.states explored.nodes (serves.built.each auto least);
+    over = tt;
+  }
+  makes (Err fault) serves = record { built = tt; over = leads.over fault serves.over }

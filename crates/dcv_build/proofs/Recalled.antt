@@ -4,9 +4,10 @@ use Rattle.std.proofs.lemmas.Option.{same_Some}
 use Rattle.dcv_arena.proofs.Counts.{count_exact}
 use Rattle.dcv_language.specs.Automaton.{WorkingMachine}
 use Rattle.dcv_language.specs.Laws.{OneCanonicalTable}
-use Rattle.dcv_dfa.specs.Raw.{RawValue, IsRaw, raw_accepts}
+use Rattle.dcv_dfa.specs.Raw.{RawValue, raw_accepts}
 use Rattle.dcv_dfa.specs.Auto.{IsAuto, table_of_states}
 use Rattle.dcv_explore.specs.declared.explorer.Limits.{Limits}
+use Rattle.dcv_explore.specs.Verdict.{SameThroughout}
 use Rattle.dcv_shelf.specs.Shelf.{ShelfTable, table_of_auto}
 use Rattle.dcv_build.specs.Asked.{IsRecalled}
 use Rattle.dcv_build.specs.Settled.{IsLeastOf, IsBuilt, IsServing, IsFor}
@@ -14,14 +15,7 @@ use Rattle.dcv_build.specs.declared.asked.Answer.{Answer}
 use Rattle.dcv_build.specs.declared.settling.Explored.{Explored}
 use Rattle.dcv_build.proofs.Waiting.{few_states, few_nodes}
 
--- a canonical automaton is its own least, and each other has its table
-least_of_itself : (auto : RawValue) → IsRaw auto → IsAuto auto → IsLeastOf auto auto
-least_of_itself auto raw is = record {
-  minimal = record { slots = refl; access = is.access; canonical = is.canonical; accepts = λ word behaves. refl; states = omega arith; nodes = omega arith };
-  raw_is = raw;
-  auto_is = is;
-}
-
+-- each canonical automaton of what a canonical one accepts has its table
 same_least : OneCanonicalTable → (auto other : RawValue) → IsAuto auto → IsLeastOf auto other → table_of_auto other ≡ table_of_auto auto
 same_least one_canonical auto other is least =
     let minimal = least.minimal in
@@ -37,10 +31,19 @@ recalled_serves one_canonical machine parts limits shelf answer explored known i
     let few = few_nodes limits known.one raw own (sym same) in
     let exact = count_exact raw.arena is.raw.arena.reduced raw.rows is.raw.rows is.auto.nodes in
     record {
-      some = (raw, least_of_itself raw is.raw is.auto);
+      decides = record {
+        auto = raw;
+        raw_is = is.raw;
+        auto_is = is.auto;
+        row_states = answer.states;
+        row_nodes = answer.nodes;
+        built = subst (λ (t : ShelfTable). IsBuilt machine parts limits t answer.states answer.nodes) same known.built;
+        slots = refl;
+        verdict = SameThroughout (λ word b. refl);
+        states = few_states limits known.one raw own (sym same);
+        nodes = omega (arith, few, exact);
+      };
       each = λ other least.
           subst (λ (t : ShelfTable × (ℕ × ℕ)). IsBuilt machine parts limits t.0 t.1.0 t.1.1)
           (λ i. ((same ∙ sym (same_least one_canonical raw other is.auto least)) i, (sym is.states i, sym is.nodes i))) known.built;
-      states = few_states limits known.one raw own (sym same);
-      nodes = omega (arith, few, exact);
     }

@@ -1,10 +1,12 @@
--- The automaton of a goal under its complements, and its first steps: a canonical one is turned, and of one that is not minimised it is known whether it is.
-use Rattle.std.proofs.Common.{◌≡◌, ◌⊎◌, ℕ, ◌+◌, ◌<◌, Bool, true, false, not, List, [], ◌∷◌, ◌++◌, length, Option, None, Some, slice_get, Result, Ok, IfOk, inl, inr, refl, sym, ap, subst, ◌∙◌, arith}
+-- The automaton of a goal under its complements, and its first steps: a canonical one is turned, and of one that is built for a verdict it is known whether it is.
+use Rattle.std.proofs.Common.{◌≡◌, ◌⊎◌, ℕ, ◌+◌, ◌<◌, Bool, true, false, not, List, [], ◌∷◌, ◌++◌, length, Option, None, Some, slice_get, Result, Ok, Err, IfOk, inl, inr, refl, sym, ap, subst, ◌∙◌, arith}
 use Rattle.std.specs.Option.{option_map}
 use Rattle.std.proofs.Math.Nat.{eq-or-lt_of_le}
 use Rattle.dcv_language.specs.declared.count.Count.{Count}
+use Rattle.dcv_language.specs.Automaton.{WorkingMachine}
+use Rattle.dcv_language.specs.Language.{Language, outside}
 use Rattle.dcv_language.specs.Laws.{OneCanonicalTable}
-use Rattle.dcv_word.specs.Behaviour.{Word, IsBehaviour}
+use Rattle.dcv_word.specs.Behaviour.{Word}
 use Rattle.dcv_core.specs.Steps.{PlainOp, OpNot, CoreStep, PlainCore, steps_of}
 use Rattle.dcv_core.specs.StepWords.{IsOperation}
 use Rattle.dcv_core.proofs.StepList.{steps_are_operations, last_step_is_core}
@@ -13,17 +15,21 @@ use Rattle.dcv_dfa.specs.Raw.{RawValue, raw_accepts}
 use Rattle.dcv_dfa.specs.Auto.{count_of_nodes}
 use Rattle.dcv_dfa.proofs.States.{table_has_the_states}
 use Rattle.dcv_explore.specs.declared.explorer.Limits.{Limits}
+use Rattle.dcv_explore.specs.Verdict.{HaveSameVerdict}
 use Rattle.dcv_shelf.specs.Shelf.{ShelfTable, table_of_auto, IsComplement}
 use Rattle.dcv_build.specs.declared.faults.BuildFault.{BuildFault}
 use Rattle.dcv_build.specs.declared.settling.Explored.{Explored}
 use Rattle.dcv_build.specs.Budget.{accepted_by}
-use Rattle.dcv_build.specs.Building.{HasBuilt, MakesNext, Makes, ForTree, IsGoal, IsExploredGoal, IsRawGoal, IsNoted}
+use Rattle.dcv_build.specs.Building.{HasBuilt, IsNext, MakesNext, Makes, ForTree, IsGoal, IsExploredGoal, IsVerdictGoal, DecidesStep, IsNoted}
 use Rattle.dcv_build.specs.Given.{IsCore}
+use Rattle.dcv_build.specs.Settled.{Decides}
 use Rattle.dcv_build.specs.Tasks.{Here, IsNoComplement, TurnFrom}
 use Rattle.dcv_build.proofs.AtSteps.{not_next}
 use Rattle.dcv_build.proofs.Moves.{noted}
 use Rattle.dcv_build.proofs.Negation.{other, other_is_raw, other_is_auto, other_accepts, is_complement}
 use Rattle.dcv_build.proofs.Operands.{step_at}
+use Rattle.dcv_build.proofs.Progress.{Leads}
+use Rattle.dcv_build.proofs.SameVerdicts.{same_verdict_after, same_verdict_outside}
 use Rattle.dcv_build.proofs.ShelfTables.{nodes_by_table}
 use Rattle.dcv_build.proofs.Waiting.{all_steps}
 
@@ -66,26 +72,23 @@ more_turn core n d here behind number from within = pick (eq-or-lt_of_le from)
 
 -- ---- its automaton
 
+next_goal : (core : PlainCore) (limits : Limits) (n states nodes : ℕ) (waiting : List ShelfTable) (counts new : List Count) (auto : RawValue)
+    → ForTree core (λ steps. IsNext steps limits n waiting counts (table_of_auto auto) states nodes) → IsNoted core n states nodes counts new → IsGoal core limits (n + 1) auto new
+next_goal core limits n states nodes waiting counts new auto next noted = record {
+  rest = waiting;
+  built = λ tree is.
+      subst (HasBuilt (steps_of core.declared tree) limits (n + 1) (waiting ++ table_of_auto auto ∷ [])) (sym noted.added) (next tree is noted.count (noted.is tree is));
+}
+
 pub made_goal : (core : PlainCore) (limits : Limits) (n : ℕ) (waiting : List ShelfTable) (counts new : List Count) (result : Result Explored BuildFault) (explored : Explored) → result ≡ Ok explored
-    → IsCore core → ForTree core (λ steps. Makes steps limits n waiting counts result) → IsNoted core n explored.states explored.nodes counts new
+    → ForTree core (λ steps. Makes steps limits n waiting counts result) → IsNoted core n explored.states explored.nodes counts new
     → IsExploredGoal core limits (n + 1) explored.raw new
-made_goal core limits n waiting counts new result explored is_ok known makes noted =
+made_goal core limits n waiting counts new result explored is_ok makes noted =
     let next : ForTree core (λ steps. MakesNext steps limits n waiting counts explored) = λ tree is.
     subst (λ (r : Result Explored BuildFault). IfOk r (MakesNext (steps_of core.declared tree) limits n waiting counts)) is_ok (makes tree is).built in
-    let some = next known.tree known.is in
-    record {
-      some = some.some;
-      each = λ auto least. record {
-        rest = waiting;
-        built = λ tree is.
-            let steps = steps_of core.declared tree in
-            subst (HasBuilt steps limits (n + 1) (waiting ++ table_of_auto auto ∷ [])) (sym noted.added) ((next tree is).each auto least noted.count (noted.is tree is));
-      };
-      states = some.states;
-      nodes = some.nodes;
-    }
+    λ auto least. next_goal core limits n explored.states explored.nodes waiting counts new auto (λ tree is. next tree is auto least) noted
 
--- ---- what is not minimised
+-- ---- what is built for a verdict
 
 -- a complement more
 turned_twice : (b : Bool) → not (not b) ≡ b
@@ -106,33 +109,48 @@ some_count core n states nodes op counts here = by (slice_get core.steps n) refl
         let count : Count = record { at = step.span.start; states = states; nodes = nodes } in
         (counts ++ count ∷ [], noted core n step.span (ap (option_map (λ (s : CoreStep). s.span)) at) states nodes counts (counts ++ count ∷ []) count refl refl refl refl)
 
-pub raw_goal : (core : PlainCore) (limits : Limits) (n : ℕ) (raw : RawValue) (counts : List Count) → IsExploredGoal core limits n raw counts → IsRawGoal core limits n raw false
-raw_goal core limits n raw counts is =
-    let (auto, least) = is.some in
-    let slots = least.minimal.slots in
-    record {
-      auto = auto;
-      raw_is = least.raw_is;
-      auto_is = least.auto_is;
-      slots = sym slots;
-      accepts = λ word b. sym (least.minimal.accepts word (subst (λ k. IsBehaviour k word) slots b));
-      counts = counts;
-      goal = is.each auto least;
-    }
+module _ (core : PlainCore) (limits : Limits) (n : ℕ) (waiting : List ShelfTable) (counts : List Count) {S : Type 0} (machine : WorkingMachine S) (parts : ℕ)
+    (leads : ForTree core (λ steps. Leads steps limits n waiting counts machine parts)) (op : PlainOp) (here : Here core n op) where
+  pub decides_step : (result : Result Explored BuildFault) → Decides machine parts limits n result → DecidesStep core limits n result
+  decides_step (Ok explored) decides =
+      let is = decides.built in
+      let (new, noted) = some_count core n is.row_states is.row_nodes op counts here in
+      record {
+        goal = record {
+          auto = is.auto;
+          raw_is = is.raw_is;
+          auto_is = is.auto_is;
+          slots = is.slots;
+          verdict = is.verdict;
+          counts = new;
+          goal = next_goal core limits n is.row_states is.row_nodes waiting counts new is.auto
+              (λ tree of. (leads tree of).next (table_of_auto is.auto) is.row_states is.row_nodes is.built) noted;
+          states = is.states;
+          nodes = is.nodes;
+        };
+        over = λ tree is. tt;
+      }
+  decides_step (Err fault) decides = record { goal = tt; over = λ tree is. (leads tree is).over fault decides.over }
 
-pub turned_raw_goal : MachineAcceptsAtomStep → OneCanonicalTable → (core : PlainCore) (limits : Limits) (n d : ℕ) (raw : RawValue) (complemented : Bool) → Here core n (OpNot d)
-    → IsRawGoal core limits n raw complemented → IsRawGoal core limits (n + 1) raw (not complemented)
-turned_raw_goal atoms one_canonical core limits n d raw complemented here was =
+pub turned_verdict_goal : MachineAcceptsAtomStep → OneCanonicalTable → (core : PlainCore) (limits : Limits) (n d : ℕ) (raw : RawValue) (complemented : Bool) → Here core n (OpNot d)
+    → IsVerdictGoal core limits n raw complemented → IsVerdictGoal core limits (n + 1) raw (not complemented)
+turned_verdict_goal atoms one_canonical core limits n d raw complemented here was =
     let auto = was.auto in
     let own = was.auto_is in
     let (new, noted) = some_count core n (length auto.rows) (count_of_nodes auto) (OpNot d) was.counts here in
+    let turned : HaveSameVerdict auto.arena.slots (accepted_by raw (not complemented)) (outside (raw_accepts auto)) =
+    subst (λ (L : Language). HaveSameVerdict auto.arena.slots L (outside (raw_accepts auto))) (λ i word. sym (accepted_turned raw complemented word) i)
+    (same_verdict_outside auto.arena.slots (accepted_by raw complemented) (raw_accepts auto) was.verdict) in
     record {
       auto = other auto was.raw_is own;
       raw_is = other_is_raw auto was.raw_is own;
       auto_is = other_is_auto auto was.raw_is own;
       slots = was.slots;
-      accepts = λ word b. accepted_turned raw complemented word ∙ ap not (was.accepts word b) ∙ sym (other_accepts auto was.raw_is own word b);
+      verdict = same_verdict_after auto.arena.slots (accepted_by raw (not complemented)) (outside (raw_accepts auto)) (raw_accepts (other auto was.raw_is own)) turned
+          (λ word b. sym (other_accepts auto was.raw_is own word b));
       counts = new;
       goal = turned_goal atoms one_canonical core limits n d (length auto.rows) (count_of_nodes auto) auto (other auto was.raw_is own) was.counts new was.goal here
           (is_complement auto was.raw_is own) refl refl noted;
+      states = was.states;
+      nodes = was.nodes;
     }

@@ -20,12 +20,13 @@ use Rattle.dcv_explore.specs.declared.explorer.Limits.{Limits}
 use Rattle.dcv_explore.specs.Budget.{Row}
 use Rattle.dcv_shelf.specs.Shelf.{ShelfTable, table_of_auto, nodes_of_table, IsComplement}
 use Rattle.dcv_build.specs.Rows.{row_of}
-use Rattle.dcv_build.specs.Settled.{Settles, Serves, IsFor, Answers}
+use Rattle.dcv_build.specs.Settled.{SettlesUpTo, Serves, Decides, IsFor, Answers}
 use Rattle.dcv_build.specs.declared.asked.Answer.{Answer}
 use Rattle.dcv_build.specs.declared.asked.Asked.{Asked}
 use Rattle.dcv_build.specs.declared.asked.Asked.TheVariants.{And, Or, Iff, Chop, Star, Exists}
 use Rattle.dcv_build.specs.declared.faults.BuildFault.{BuildFault}
 use Rattle.dcv_build.specs.declared.settling.Explored.{Explored}
+use Rattle.dcv_build.specs.declared.settling.Extent.{Extent}
 use Rattle.dcv_build.specs.declared.settling.Made.{Made}
 
 -- ---- numbers
@@ -84,11 +85,14 @@ AreOperands shelf (Chop c d) = AreTwo shelf c d
 AreOperands shelf (Star d) = d < length shelf
 AreOperands shelf (Exists d) = IsWide shelf d
 
-abbrev pub SettlesAsked : List ShelfTable → Asked → Limits → ℕ → Result Explored BuildFault → Type 0
-SettlesAsked shelf asked limits step result = Settles (asked_row shelf asked).machine (asked_row shelf asked).parts limits step result
+abbrev pub SettlesAsked : Extent → List ShelfTable → Asked → Limits → ℕ → Result Explored BuildFault → Type 0
+SettlesAsked extent shelf asked limits step result = SettlesUpTo extent (asked_row shelf asked).machine (asked_row shelf asked).parts limits step result
 
 abbrev pub ServesAsked : List ShelfTable → Asked → Limits → ℕ → Result Explored BuildFault → Type 0
 ServesAsked shelf asked limits step result = Serves (asked_row shelf asked).machine (asked_row shelf asked).parts limits step result
+
+abbrev pub DecidesAsked : List ShelfTable → Asked → Limits → ℕ → Result Explored BuildFault → Type 0
+DecidesAsked shelf asked limits step result = Decides (asked_row shelf asked).machine (asked_row shelf asked).parts limits step result
 
 abbrev pub AnswersAsked : List ShelfTable → Asked → Limits → ℕ → List ShelfTable → Result Answer BuildFault → Type 0
 AnswersAsked shelf asked limits step after result = Answers (asked_row shelf asked).machine (asked_row shelf asked).parts limits step after result

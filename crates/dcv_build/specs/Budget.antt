@@ -6,13 +6,13 @@
 --     IsFaultOver steps limits fault      this is the first of these steps that is over the limits
 --     IsAutomatonOf k L auto              the canonical automaton of a set over k variables
 --     accepted_by raw complemented        the words that an automaton accepts, or all others
---     IsRawOf k L raw complemented        these are the set over k variables
+--     HasVerdictOfSet k L raw complemented    they have the verdict of the set over k variables
 --     Builds core limits IsOf states nodes result    what a build gives
 use Rattle.std.specs.Prelude.{◌≡◌, ℕ, ◌≤◌, Bool, if◌then◌else◌, List, length, Some, slice_get, Result, IfOk, IfErr, OnOk, ⊤}
 use Rattle.dcv_word.specs.Behaviour.{Word}
 use Rattle.dcv_language.specs.Table.{Table}
 use Rattle.dcv_language.specs.Canonical.{IsCanonical}
-use Rattle.dcv_language.specs.Language.{Language, HaveSameBehaviours, outside}
+use Rattle.dcv_language.specs.Language.{Language, outside}
 use Rattle.dcv_core.specs.Core.{CoreTree}
 use Rattle.dcv_core.specs.Holds.{words_of}
 use Rattle.dcv_core.specs.Steps.{PlainStep, PlainCore, IsCoreOf, steps_of}
@@ -20,6 +20,7 @@ use Rattle.dcv_dfa.specs.Raw.{RawValue, raw_accepts}
 use Rattle.dcv_dfa.specs.Auto.{table_of_states}
 use Rattle.dcv_explore.specs.declared.explorer.Limits.{Limits}
 use Rattle.dcv_explore.specs.Budget.{Row, IsWithin, Kind, TooManyStates, TooManyNodes, Exceeds}
+use Rattle.dcv_explore.specs.Verdict.{HaveSameVerdict}
 use Rattle.dcv_build.specs.Rows.{row_of}
 use Rattle.dcv_build.specs.declared.faults.BuildFault.{BuildFault}
 use Rattle.dcv_build.specs.declared.faults.BuildFault.TheVariants.{States, Nodes, Memory}
@@ -64,15 +65,15 @@ pub record IsAutomatonOf (k : ℕ) (L : Language) (auto : RawValue) : Type 0 whe
   pub access : List Word
   pub canonical : IsCanonical k L (table_of_states auto) access
 
--- ---- what is not minimised
+-- ---- what is built for a verdict
 
 -- the words that an automaton accepts, or all others
 abbrev pub accepted_by : RawValue → Bool → Language
 accepted_by raw complemented = if complemented then outside (raw_accepts raw) else raw_accepts raw
 
-pub record IsRawOf (k : ℕ) (L : Language) (raw : RawValue) (complemented : Bool) : Type 0 where
+pub record HasVerdictOfSet (k : ℕ) (L : Language) (raw : RawValue) (complemented : Bool) : Type 0 where
   pub slots : raw.arena.slots ≡ k
-  pub accepts : HaveSameBehaviours k (accepted_by raw complemented) L
+  pub verdict : HaveSameVerdict k (accepted_by raw complemented) L
 
 -- ---- what a build gives
 

@@ -5,21 +5,22 @@
 --     IsCountOf                         the count of a step that took so many states and nodes
 --     IsNext                            with this table and these counts a step is built
 --     GoesTo steps limits IsGiven       what a call answers that builds a step: what is so, or the first step that is over
---     Goes, Makes                       the same, where the table stands on the shelf, and where what is explored for it is not minimised
+--     Goes, Makes                       the same, where the table stands on the shelf, and where it is that of what is explored, once minimised
 --     ForTree core P                    so it is, whatever tree the core has the steps of
 --     IsBuilding core n building        so it is with what waits as numbers on the shelf
 --     IsGoal core limits n auto counts  so it is with this automaton, on no shelf, as the newest
 --     IsExploredGoal core limits n raw counts   so it is with the canonical automaton of this one
---     IsRawGoal core limits n raw complemented  so it is with that of what this one accepts, or of all else
-use Rattle.std.specs.Prelude.{◌≡◌, ℕ, ◌+◌, ◌≤◌, suc, Bool, List, [], ◌∷◌, ◌++◌, length, reverse, Some, slice_get, Result, IfOk, IfErr}
+--     IsVerdictGoal core limits n raw complemented    so it is with some automaton, whose verdict is that of what this one accepts, or of all else
+--     DecidesStep core limits n result  what a call answers that builds the steps up to this one for a verdict
+use Rattle.std.specs.Prelude.{◌≡◌, ℕ, ◌+◌, ◌≤◌, suc, Bool, false, List, [], ◌∷◌, ◌++◌, length, reverse, Some, slice_get, Result, IfOk, IfErr}
 use Rattle.dcv_language.specs.declared.count.Count.{Count}
 use Rattle.dcv_language.specs.Table.{Table}
 use Rattle.dcv_core.specs.Core.{CoreTree}
 use Rattle.dcv_core.specs.Steps.{PlainStep, PlainCore, steps_before, steps_of}
 use Rattle.dcv_dfa.specs.Auto.{IsAuto}
 use Rattle.dcv_dfa.specs.Raw.{RawValue, IsRaw, raw_accepts}
-use Rattle.dcv_language.specs.Language.{HaveSameBehaviours}
 use Rattle.dcv_explore.specs.declared.explorer.Limits.{Limits}
+use Rattle.dcv_explore.specs.Verdict.{HaveSameVerdict}
 use Rattle.dcv_shelf.specs.Shelf.{ShelfTable, table_of_auto}
 use Rattle.dcv_build.specs.declared.asked.Answer.{Answer}
 use Rattle.dcv_build.specs.declared.building.Building.{Building}
@@ -69,12 +70,10 @@ IsNext steps limits n waiting counts one states nodes = (count : Count) → IsCo
 abbrev pub GoesWith : List PlainStep → Limits → ℕ → List ShelfTable → List Count → List ShelfTable → Answer → Type 0
 GoesWith steps limits n waiting counts shelf answer = IsNext steps limits n waiting counts (at_number shelf answer.number) answer.states answer.nodes
 
--- what is explored has a canonical automaton, with whose table the step is built
-pub record MakesNext (steps : List PlainStep) (limits : Limits) (n : ℕ) (waiting : List ShelfTable) (counts : List Count) (explored : Explored) : Type 0 where
-  pub some : (auto : RawValue) × IsLeastOf explored.raw auto
-  pub each : (auto : RawValue) → IsLeastOf explored.raw auto → IsNext steps limits n waiting counts (table_of_auto auto) explored.states explored.nodes
-  pub states : length explored.raw.rows ≤ limits.states
-  pub nodes : length explored.raw.arena.nodes ≤ limits.nodes
+-- with the table of the canonical automaton of what is explored the step is built
+abbrev pub MakesNext : List PlainStep → Limits → ℕ → List ShelfTable → List Count → Explored → Type 0
+MakesNext steps limits n waiting counts explored = (auto : RawValue) → IsLeastOf explored.raw auto
+    → IsNext steps limits n waiting counts (table_of_auto auto) explored.states explored.nodes
 
 pub record GoesTo {X : Type 0} (steps : List PlainStep) (limits : Limits) (IsGiven : X → Type 0) (result : Result X BuildFault) : Type 0 where
   pub built : IfOk result IsGiven
@@ -97,21 +96,23 @@ pub record IsGoal (core : PlainCore) (limits : Limits) (n : ℕ) (auto : RawValu
   pub rest : List ShelfTable
   pub built : ForTree core (λ steps. HasBuilt steps limits n (rest ++ table_of_auto auto ∷ []) counts)
 
--- of what was explored there is a canonical automaton, and it is so with each
-pub record IsExploredGoal (core : PlainCore) (limits : Limits) (n : ℕ) (raw : RawValue) (counts : List Count) : Type 0 where
-  pub some : (auto : RawValue) × IsLeastOf raw auto
-  pub each : (auto : RawValue) → IsLeastOf raw auto → IsGoal core limits n auto counts
-  pub states : length raw.rows ≤ limits.states
-  pub nodes : length raw.arena.nodes ≤ limits.nodes
+abbrev pub IsExploredGoal : PlainCore → Limits → ℕ → RawValue → List Count → Type 0
+IsExploredGoal core limits n raw counts = (auto : RawValue) → IsLeastOf raw auto → IsGoal core limits n auto counts
 
-pub record IsRawGoal (core : PlainCore) (limits : Limits) (n : ℕ) (raw : RawValue) (complemented : Bool) : Type 0 where
+pub record IsVerdictGoal (core : PlainCore) (limits : Limits) (n : ℕ) (raw : RawValue) (complemented : Bool) : Type 0 where
   pub auto : RawValue
   pub raw_is : IsRaw auto
   pub auto_is : IsAuto auto
   pub slots : raw.arena.slots ≡ auto.arena.slots
-  pub accepts : HaveSameBehaviours auto.arena.slots (accepted_by raw complemented) (raw_accepts auto)
+  pub verdict : HaveSameVerdict auto.arena.slots (accepted_by raw complemented) (raw_accepts auto)
   pub counts : List Count
   pub goal : IsGoal core limits n auto counts
+  pub states : length raw.rows ≤ limits.states
+  pub nodes : length raw.arena.nodes ≤ limits.nodes
+
+pub record DecidesStep (core : PlainCore) (limits : Limits) (n : ℕ) (result : Result Explored BuildFault) : Type 0 where
+  pub goal : IfOk result (λ explored. IsVerdictGoal core limits (n + 1) explored.raw false)
+  pub over : ForTree core (λ steps. IfErr result (IsFaultOver steps limits))
 
 -- ---- counts
 

@@ -4,13 +4,15 @@ use Rattle.dcv_language.specs.declared.count.Count.{Count}
 use Rattle.dcv_word.specs.Behaviour.{Word}
 use Rattle.dcv_language.specs.Automaton.{accepts}
 use Rattle.dcv_language.specs.Canonical.{IsCanonical}
-use Rattle.dcv_language.specs.Language.{HaveSameBehaviours}
+use Rattle.dcv_language.specs.Language.{Language, HaveSameBehaviours}
 use Rattle.dcv_language.specs.Table.{Table}
+use Rattle.dcv_language.specs.Verdict.{Verdict, IsVerdict}
 use Rattle.dcv_core.specs.Core.{CoreTree}
 use Rattle.dcv_core.specs.Holds.{words_of}
 use Rattle.dcv_core.specs.Steps.{PlainStep, steps_of}
 use Rattle.dcv_explore.specs.declared.explorer.Limits.{Limits}
 use Rattle.dcv_explore.specs.Budget.{Kind}
+use Rattle.dcv_explore.specs.Verdict.{HaveSameVerdict}
 use Rattle.dcv_build.specs.Budget.{row_at, IsWithinBudget, IsOver}
 use Rattle.dcv_build.specs.Counts.{AreCounts}
 
@@ -41,3 +43,9 @@ abbrev pub MachineAcceptsStep : Type 0
 MachineAcceptsStep = (k : ℕ) (core : CoreTree) (n : ℕ) (step : PlainStep) (tables : List Table)
     → slice_get (steps_of k core) n ≡ Some step → AreCanonicalBefore (steps_of k core) n tables
     → HaveSameBehaviours step.slots (accepts (row_at step tables).machine.automaton) (words_of step.core)
+
+-- ---- what is explored for a verdict
+
+-- sets with the same verdict have one verdict
+abbrev pub VerdictOfSameVerdict : Type 0
+VerdictOfSameVerdict = (k : ℕ) (L M : Language) (verdict : Verdict) → HaveSameVerdict k L M → IsVerdict k L verdict → IsVerdict k M verdict

@@ -5,14 +5,17 @@
 --     HasExplored                       that automaton beside its exact counts
 --     IsLeastOf raw auto                the canonical automaton of what a raw one accepts
 --     IsLeastMade explored made         that of what was explored, beside the same counts
---     IsServing                         an automaton for a machine that is within the limits: the canonical one of what it accepts is the machine's
+--     HasExploredVerdict                an automaton with the verdict of a machine, as large as the limits allow at most
+--     IsDeciding                        the same of a machine that is within the limits itself: there is a canonical automaton of what it accepts
+--     IsServing                         such a one that also accepts all that the machine does, beside the machine's counts
 --     IsPassed machine parts limits step fault   the fault is at this step, whose machine passes the limit
 --     SettlesTo IsGiven                 what a call answers that explores a machine for a step: what is so, or that the machine is over a limit
---     Settles, Serves                   the same, where it gives what was explored, and where any automaton that serves
+--     Settles, Serves, Decides          the same, where it gives what was explored, any automaton that serves, and any that decides
+--     ExploresUpTo, SettlesUpTo extent  what the explorer and such a call answer that explore all, or as far as the verdict needs
 --     IsFor                             a number on a shelf is that of a machine's table, and the counts beside it are the machine's
 --     Answers                           what a call answers that finds a number for a step
 --     fault_at step limits fault        the fault of a step whose exploration has this fault
-use Rattle.std.specs.Prelude.{◌≡◌, ℕ, ◌+◌, ◌-◌, ◌≤◌, List, length, Some, slice_get, Result, IfOk, IfErr, ⊤}
+use Rattle.std.specs.Prelude.{◌≡◌, ℕ, ◌+◌, ◌-◌, ◌^◌, ◌<◌, ◌≤◌, List, length, Some, slice_get, Result, IfOk, IfErr, ⊤}
 use Rattle.dcv_word.specs.Behaviour.{Word}
 use Rattle.dcv_language.specs.Automaton.{WorkingMachine, accepts}
 use Rattle.dcv_language.specs.Canonical.{IsCanonical}
@@ -24,14 +27,17 @@ use Rattle.dcv_explore.specs.declared.explorer.Limits.{Limits}
 use Rattle.dcv_explore.specs.declared.faults.ExploreFault.{ExploreFault}
 use Rattle.dcv_explore.specs.declared.faults.ExploreFault.TheVariants.{States as TooMany, Nodes as TooLarge, Memory as NoMemory}
 use Rattle.dcv_explore.specs.Budget.{TooManyStates, TooManyNodes, Passes}
-use Rattle.dcv_explore.specs.Explored.{IsExplored}
+use Rattle.dcv_explore.specs.Explored.{IsExplored, Explores}
 use Rattle.dcv_explore.specs.Reached.{HasCounts}
+use Rattle.dcv_explore.specs.Verdict.{HaveSameVerdict, HasVerdictOf, ExploresToVerdict}
 use Rattle.dcv_shelf.specs.Shelf.{ShelfTable, table_of_auto}
 use Rattle.dcv_build.specs.Counts.{HasAllCounts}
 use Rattle.dcv_build.specs.declared.asked.Answer.{Answer}
 use Rattle.dcv_build.specs.declared.faults.BuildFault.{BuildFault}
 use Rattle.dcv_build.specs.declared.faults.BuildFault.TheVariants.{States, Nodes, Memory}
 use Rattle.dcv_build.specs.declared.settling.Explored.{Explored}
+use Rattle.dcv_build.specs.declared.settling.Extent.{Extent}
+use Rattle.dcv_build.specs.declared.settling.Extent.TheVariants.{Whole, Verdict}
 use Rattle.dcv_build.specs.declared.settling.Made.{Made}
 
 pub record IsOwn (limits : Limits) (one : ShelfTable) : Type 0 where
@@ -78,12 +84,31 @@ pub record HasExplored {S : Type 0} (machine : WorkingMachine S) (parts : ℕ) (
   pub states_are : explored.states ≡ length explored.raw.rows
   pub nodes_are : explored.nodes ≡ parts + length explored.raw.arena.nodes
 
--- what is explored for the machine serves, and so does the canonical automaton itself
-pub record IsServing {S : Type 0} (machine : WorkingMachine S) (parts : ℕ) (limits : Limits) (explored : Explored) : Type 0 where
-  pub some : (auto : RawValue) × IsLeastOf explored.raw auto
-  pub each : (auto : RawValue) → IsLeastOf explored.raw auto → IsBuilt machine parts limits (table_of_auto auto) explored.states explored.nodes
+pub record HasExploredVerdict {S : Type 0} (machine : WorkingMachine S) (limits : Limits) (explored : Explored) : Type 0 where
+  pub raw : IsRaw explored.raw
+  pub of_machine : HasVerdictOf machine explored.raw
   pub states : length explored.raw.rows ≤ limits.states
   pub nodes : length explored.raw.arena.nodes ≤ limits.nodes
+  -- the limits are numbers of the program
+  pub most_states : limits.states < 2 ^ 32
+  pub most_nodes : limits.nodes < 2 ^ 32
+
+pub record IsDeciding {S : Type 0} (machine : WorkingMachine S) (parts : ℕ) (limits : Limits) (explored : Explored) : Type 0 where
+  pub auto : RawValue
+  pub raw_is : IsRaw auto
+  pub auto_is : IsAuto auto
+  pub row_states : ℕ
+  pub row_nodes : ℕ
+  pub built : IsBuilt machine parts limits (table_of_auto auto) row_states row_nodes
+  pub slots : explored.raw.arena.slots ≡ auto.arena.slots
+  pub verdict : HaveSameVerdict auto.arena.slots (raw_accepts explored.raw) (raw_accepts auto)
+  pub states : length explored.raw.rows ≤ limits.states
+  pub nodes : length explored.raw.arena.nodes ≤ limits.nodes
+
+-- what is explored for the machine serves, and so does the canonical automaton itself
+pub record IsServing {S : Type 0} (machine : WorkingMachine S) (parts : ℕ) (limits : Limits) (explored : Explored) : Type 0 where
+  pub decides : IsDeciding machine parts limits explored
+  pub each : (auto : RawValue) → IsLeastOf explored.raw auto → IsBuilt machine parts limits (table_of_auto auto) explored.states explored.nodes
 
 abbrev pub IsPassed : {S : Type 0} → WorkingMachine S → ℕ → Limits → ℕ → BuildFault → Type 0
 IsPassed machine parts limits step (States at limit) = (at ≡ step) × (limit ≡ limits.states) × Passes TooManyStates machine parts limits
@@ -99,6 +124,17 @@ Settles machine parts limits step result = SettlesTo machine parts limits step (
 
 abbrev pub Serves : {S : Type 0} → WorkingMachine S → ℕ → Limits → ℕ → Result Explored BuildFault → Type 0
 Serves machine parts limits step result = SettlesTo machine parts limits step (IsServing machine parts limits) result
+
+abbrev pub Decides : {S : Type 0} → WorkingMachine S → ℕ → Limits → ℕ → Result Explored BuildFault → Type 0
+Decides machine parts limits step result = SettlesTo machine parts limits step (IsDeciding machine parts limits) result
+
+abbrev pub ExploresUpTo : {S : Type 0} → Extent → WorkingMachine S → Limits → Result RawValue ExploreFault → Type 0
+ExploresUpTo Whole machine limits result = Explores machine limits result
+ExploresUpTo Verdict machine limits result = ExploresToVerdict machine limits result
+
+abbrev pub SettlesUpTo : {S : Type 0} → Extent → WorkingMachine S → ℕ → Limits → ℕ → Result Explored BuildFault → Type 0
+SettlesUpTo Whole machine parts limits step result = Settles machine parts limits step result
+SettlesUpTo Verdict machine parts limits step result = SettlesTo machine parts limits step (HasExploredVerdict machine limits) result
 
 -- ---- on a shelf
 

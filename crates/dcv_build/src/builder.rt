@@ -4,7 +4,7 @@ ghost use Rattle.dcv_core.specs.Core.{CoreTree};
 ghost use Rattle.dcv_core.specs.Steps.{steps_of};
 ghost use Rattle.dcv_dfa.specs.Auto.{count_of_nodes};
 ghost use Rattle.dcv_build.specs.Given.{IsCoreOf, IsCore};
-ghost use Rattle.dcv_build.specs.Budget.{IsAutomatonOf, IsRawOf, Builds};
+ghost use Rattle.dcv_build.specs.Budget.{IsAutomatonOf, HasVerdictOfSet, Builds};
 ghost use Rattle.dcv_build.specs.Counts.{AreCounts};
 
 use crate::building::{Building, is_complemented};
@@ -26,12 +26,13 @@ pub struct Built {
     pub counts: Vec<Count>,
 }
 
-/// An automaton for a goal's words as its last operator was explored, or the canonical one where an earlier step has explored the same.
+/// An automaton that has the verdict of a goal's words: it was explored for the last operator, as far as the verdict needs, or is the canonical
+/// one where an earlier step has explored the same.
 #[derive(Drop)]
-pub struct BuiltRaw {
+pub struct BuiltForVerdict {
     /// The automaton, over the variables that the core declares.
     pub raw: Raw,
-    /// Whether it accepts the words that are not the goal's, in place of the goal's.
+    /// Whether it stands for the words that are not the goal's, in place of the goal's.
     pub complemented: bool,
 }
 
@@ -80,16 +81,19 @@ pub fn build_counted(alloc: Global, core: &Core, limits: Limits) -> Result<Built
     builder.build_counted(core)
 }
 
-/// An automaton of the goal's words that need not be the least, and of which nothing is minimised after its last operator was explored.
-///
-/// Its verdict needs no more than this: shortest words are found in any automaton.
-pub fn build_raw(alloc: Global, core: &Core, limits: Limits) -> Result<BuiltRaw, BuildFault>
+/// An automaton with the verdict of the goal's words, which need not accept all of them: its last operator is not minimised, and of a product
+/// that cannot exceed the limits no more is explored than the verdict needs.
+pub fn build_for_verdict(
+    alloc: Global,
+    core: &Core,
+    limits: Limits,
+) -> Result<BuiltForVerdict, BuildFault>
     requires { IsCore core.now }
-    ensures { Builds core.now limits (λ words built. IsRawOf core.now.declared words built.raw built.complemented)
+    ensures { Builds core.now limits (λ words built. HasVerdictOfSet core.now.declared words built.raw built.complemented)
         (λ built. length built.raw.rows) (λ built. length built.raw.arena.nodes) result }
 {
     let mut builder = Builder::new(alloc, limits);
-    builder.build_raw(core)
+    builder.build_for_verdict(core)
 }
 
 impl Builder {
@@ -135,20 +139,20 @@ impl Builder {
         })
     }
 
-    /// An automaton of the goal's words that need not be the least, as `build_raw` gives it.
-    pub fn build_raw(&mut self, core: &Core) -> Result<BuiltRaw, BuildFault>
+    /// An automaton with the verdict of the goal's words, as `build_for_verdict` gives it.
+    pub fn build_for_verdict(&mut self, core: &Core) -> Result<BuiltForVerdict, BuildFault>
         requires { IsCore core.now }
         ensures same { self.new ≡ self.old }
-        ensures builds { Builds core.now self.old (λ words built. IsRawOf core.now.declared words built.raw built.complemented)
+        ensures builds { Builds core.now self.old (λ words built. HasVerdictOfSet core.now.declared words built.raw built.complemented)
             (λ built. length built.raw.rows) (λ built. length built.raw.arena.nodes) result }
     {
         let last = last_operator(core);
         let mut building = Building::new(self.alloc, self.limits);
-        let taken = building.take_to(core, last);
+        let decided = building.decide(core, last);
         self.explored = building.explored();
         drop(building);
-        let explored = taken?;
-        Ok(BuiltRaw {
+        let explored = decided?;
+        Ok(BuiltForVerdict {
             raw: explored.raw,
             complemented: is_complemented(core, last + 1),
         })

@@ -1,19 +1,18 @@
 // The steps of a core, built one after another. A step takes the automata of its operands from the end of those that wait, and its own
-// waits in their place. That of the last operator goes on no shelf: it is handed out as it is, or minimised, and turned where it is by the
-// `!` after it.
-ghost use Rattle.std.specs.Prelude.{◌≡◌, ◌<◌, ◌≤◌, ◌+◌, [], ℕ, List, length, IfOk, IfErr, OnOk};
+// waits in their place. That of the last operator goes on no shelf: it is minimised and turned where it is by the `!` after it, or
+// handed out as it is, where a verdict is all that is asked.
+ghost use Rattle.std.specs.Prelude.{◌≡◌, ◌<◌, ◌≤◌, ◌+◌, [], ℕ, false, length, IfOk, IfErr, OnOk};
 ghost use Rattle.dcv_atoms.specs.AtomRows.{atom_machine};
 ghost use Rattle.dcv_atoms.specs.Parts.{atom_nodes};
 ghost use Rattle.dcv_atoms.specs.Steps.{IsAtom};
 ghost use Rattle.dcv_core.specs.Core.{CoreTree, PlainBasic};
 ghost use Rattle.dcv_core.specs.Steps.{OpNot, steps_of};
 ghost use Rattle.dcv_dfa.specs.Raw.{RawValue};
-ghost use Rattle.dcv_language.specs.declared.count.Count.{Count as CountValue};
 ghost use Rattle.dcv_explore.specs.declared.explorer.Limits.{Limits as AnyLimits};
 ghost use Rattle.dcv_shelf.specs.Shelf.{KeepsNumbers};
 ghost use Rattle.dcv_build.specs.Asked.{tables_at, AreThere};
 ghost use Rattle.dcv_build.specs.Budget.{IsFaultOver};
-ghost use Rattle.dcv_build.specs.Building.{IsBuilding, ForTree, Goes, GoesWith, Makes, IsGoal, IsExploredGoal, IsRawGoal, IsNoted};
+ghost use Rattle.dcv_build.specs.Building.{IsBuilding, ForTree, Goes, GoesWith, Makes, IsGoal, IsExploredGoal, IsVerdictGoal, DecidesStep, IsNoted};
 ghost use Rattle.dcv_build.specs.Tasks.{Here, TurnFrom, IsNoComplement};
 ghost use Rattle.dcv_build.specs.Settled.{Answers, Settles};
 ghost use Rattle.dcv_build.specs.Given.{IsCoreOf, IsCore};
@@ -94,6 +93,23 @@ impl Building {
             &mut self.counts,
         )?;
         Ok(explored)
+    }
+
+    // Builds the steps up to this one, which is no `!`, and gives an automaton with its verdict. Of this step nothing is counted.
+    pub(crate) fn decide(&mut self, core: &Core, last: u32) -> Result<Explored, BuildFault>
+        requires core { IsCore core.now }
+        requires last { last < length core.now.steps }
+        requires operator { IsNoComplement core.now last }
+        requires begun { IsBuilding core.now 0 self.old }
+        ensures { DecidesStep core.now self.old.known.limits last result }
+    {
+        atoms_accept_steps();
+        self.take_steps(core, last)?;
+        match task_of(core, last, &mut self.waiting) {
+            Task::Atom => self.make_atom(core, last),
+            Task::Complement(_) => unreachable!(),
+            Task::Operator(asked) => self.known.decide(asked, last),
+        }
     }
 
     // The canonical automaton of the last step, given what was explored for the one before this: from here on each is a complement.
@@ -305,8 +321,7 @@ fn note(
 pub(crate) fn is_complemented(core: &Core, from: u32) -> bool
     requires within { from ≤ length core.now.steps }
     requires turn { TurnFrom core.now from }
-    ensures { (limits : AnyLimits) (raw : RawValue) (counts : List CountValue) → IsExploredGoal core.now limits from raw counts
-        → IsRawGoal core.now limits (length core.now.steps) raw result }
+    ensures { (limits : AnyLimits) (raw : RawValue) → IsVerdictGoal core.now limits from raw false → IsVerdictGoal core.now limits (length core.now.steps) raw result }
 {
     atoms_accept_steps();
     one_canonical_table();

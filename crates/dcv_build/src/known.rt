@@ -1,13 +1,17 @@
 // What is known in a build: its automata, which share one shelf, and which of them answers an operator that was explored. So an operator
 // is explored once for all steps that have it over the same tables of one shelf.
-ghost use Rattle.std.specs.Prelude.{◌≡◌, ◌<◌, [], length, Some, slice_get, IfOk, IfSome};
+ghost use Rattle.std.specs.Prelude.{◌≡◌, ◌<◌, [], Bool, IsTrue, length, Some, slice_get, IfOk, IfSome};
+ghost use Rattle.dcv_language.specs.OperationMachines.{pair_machine};
+ghost use Rattle.dcv_explore.specs.Budget.{IsWithin};
 ghost use Rattle.dcv_shelf.specs.Shelf.{ShelfTable, table_of_auto, KeepsNumbers};
-ghost use Rattle.dcv_build.specs.Asked.{AreOperands, SettlesAsked, ServesAsked, AnswersAsked, IsAnswer, IsRecalled, IsPut, IsTurned};
+ghost use Rattle.dcv_build.specs.Asked.{asked_row, at_number, plain_tables, AreTwo, AreOperands, SettlesAsked, ServesAsked, DecidesAsked, AnswersAsked, IsAnswer, IsRecalled, IsPut, IsTurned};
+ghost use Rattle.dcv_build.specs.Rows.{pair_row, operand_at};
 
 use crate::asked::{Answer, Asked};
+use crate::bounds::cannot_exceed;
 use crate::faults::BuildFault;
 use crate::operations;
-use crate::settling::{Explored, Made, least};
+use crate::settling::{Explored, Extent, Made, least};
 use dcv_dfa::{Auto, Table};
 use dcv_explore::Limits;
 use dcv_language::laws::one_canonical_table;
@@ -105,7 +109,7 @@ impl Known {
         if let Some(answer) = self.find(asked) {
             return Ok(answer);
         }
-        let explored = self.explore(asked, step)?;
+        let explored = self.explore(asked, step, Extent::Whole)?;
         let made = least(self.alloc, explored)?;
         let answer = self.put(&made)?;
         self.remember(asked, answer)?;
@@ -124,9 +128,46 @@ impl Known {
             Some(answer) => Ok(self.recall(answer)?),
             None => {
                 self.count();
-                self.explore(asked, step)
+                self.explore(asked, step, Extent::Whole)
             }
         }
+    }
+
+    // An automaton with the verdict of an operator over automata of the shelf, which goes on none: no more than that is explored where the
+    // operator is not known and cannot exceed the limits.
+    pub(crate) fn decide(&mut self, asked: Asked, step: u32) -> Result<Explored, BuildFault>
+        requires { AreOperands self.old.tables asked }
+        ensures same { self.new ≡ self.old }
+        ensures decides { DecidesAsked self.old.tables asked self.old.limits step result }
+    {
+        if self.is_within(asked) && self.find(asked).is_none() {
+            self.count();
+            return self.explore(asked, step, Extent::Verdict);
+        }
+        self.make(asked, step)
+    }
+
+    // Whether the sizes of the operands tell that the operator is within the limits.
+    fn is_within(&self, asked: Asked) -> bool
+        requires { AreOperands self.now.tables asked }
+        ensures { IsTrue result → IsWithin (asked_row self.now.tables asked) self.now.limits }
+    {
+        match asked {
+            Asked::And(first, second) => self.is_product_within(first, second),
+            Asked::Or(first, second) => self.is_product_within(first, second),
+            Asked::Iff(first, second) => self.is_product_within(first, second),
+            _ => false,
+        }
+    }
+
+    // The same of two operands side by side, however their truths are joined.
+    fn is_product_within(&self, first: u32, second: u32) -> bool
+        requires { AreTwo self.now.tables first second }
+        ensures { IsTrue result → (join : Bool → Bool → Bool) → IsWithin (pair_row (pair_machine (at_number self.now.tables first).slots join
+            (operand_at (plain_tables self.now.tables) first) (operand_at (plain_tables self.now.tables) second))) self.now.limits }
+    {
+        let (first, second) = (self.shelf.view(first), self.shelf.view(second));
+        cannot_exceed(&first, &second, self.limits)
     }
 
     // The automaton of an answer, beside its counts.
@@ -157,10 +198,10 @@ impl Known {
         Ok(())
     }
 
-    // The automaton of an operator over automata of the shelf, as it is explored.
-    fn explore(&self, asked: Asked, step: u32) -> Result<Explored, BuildFault>
+    // The automaton of an operator over automata of the shelf, as it is explored, or one with its verdict.
+    fn explore(&self, asked: Asked, step: u32, extent: Extent) -> Result<Explored, BuildFault>
         requires { AreOperands self.now.tables asked }
-        ensures { SettlesAsked self.now.tables asked self.now.limits step result }
+        ensures { SettlesAsked extent self.now.tables asked self.now.limits step result }
     {
         let (alloc, limits, shelf) = (self.alloc, self.limits, &self.shelf);
         match asked {
@@ -170,6 +211,7 @@ impl Known {
                 shelf.view(second),
                 limits,
                 step,
+                extent,
             ),
             Asked::Or(first, second) => operations::disjunction(
                 alloc,
@@ -177,6 +219,7 @@ impl Known {
                 shelf.view(second),
                 limits,
                 step,
+                extent,
             ),
             Asked::Iff(first, second) => operations::agreement(
                 alloc,
@@ -184,6 +227,7 @@ impl Known {
                 shelf.view(second),
                 limits,
                 step,
+                extent,
             ),
             Asked::Chop(first, second) => operations::chop(
                 alloc,
@@ -191,10 +235,17 @@ impl Known {
                 shelf.view(second),
                 limits,
                 step,
+                extent,
             ),
-            Asked::Star(operand) => operations::star(alloc, shelf.view(operand), limits, step),
+            Asked::Star(operand) => operations::star(
+                alloc,
+                shelf.view(operand),
+                limits,
+                step,
+                extent,
+            ),
             Asked::Exists(operand) => {
-                operations::some_track(alloc, shelf.view(operand), limits, step)
+                operations::some_track(alloc, shelf.view(operand), limits, step, extent)
             }
         }
     }

@@ -1,5 +1,5 @@
-//! Laws of the budget, and of the machines that are explored. Each function here does nothing: its contract is the law.
-ghost use Rattle.dcv_build.specs.Laws.{MachineAcceptsStep, OneListOfCounts, OneStepIsOver, WithinExcludesOver};
+//! Laws of the budget, of the machines that are explored, and of verdicts. Each function here does nothing: its contract is the law.
+ghost use Rattle.dcv_build.specs.Laws.{MachineAcceptsStep, OneListOfCounts, OneStepIsOver, VerdictOfSameVerdict, WithinExcludesOver};
 
 use dcv_atoms::laws::machines_accept_steps as atoms_accept_steps;
 use dcv_core::laws::steps_are_operations;
@@ -30,3 +30,8 @@ pub fn machines_accept_steps()
     steps_are_operations();
     atoms_accept_steps();
 }
+
+/// The verdict of a set is that of each other set with the same verdict: its words have at most the length up to which the sets agree.
+pub fn verdict_of_same_verdict()
+    ensures { VerdictOfSameVerdict }
+{}

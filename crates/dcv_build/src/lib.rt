@@ -6,7 +6,7 @@
 //! let auto = build(alloc, &core, limits)?;
 //! auto.states() // the least number for the words of the goal
 //! build_counted(alloc, &core, limits)?.counts // what each step took
-//! build_raw(alloc, &core, limits)?.raw // not minimised, which a verdict does not need
+//! build_for_verdict(alloc, &core, limits)?.raw // not minimised, and not explored further than a verdict needs
 //! ```
 //!
 //! What a step may need is defined in `specs/`: the machine that is explored for it is a function of its operator and of the canonical
@@ -25,5 +25,5 @@ mod operations;
 mod settling;
 mod tasks;
 
-pub use builder::{Builder, Built, BuiltRaw, build, build_counted, build_raw};
+pub use builder::{Builder, Built, BuiltForVerdict, build, build_counted, build_for_verdict};
 pub use faults::BuildFault;

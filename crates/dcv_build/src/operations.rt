@@ -1,4 +1,4 @@
-// What is explored for each operator, of the automata of its operands where they stand on the shelf.
+// What is explored for each operator, and how far, of the automata of its operands where they stand on the shelf.
 ghost use Rattle.std.specs.Prelude.{◌≡◌, ◌<◌, ◌-◌, ℕ};
 ghost use Rattle.dcv_language.specs.OperationMachines.{and_machine, or_machine, iff_machine, chop_machine, star_machine, exists_machine};
 ghost use Rattle.dcv_language.specs.Table.{automaton_of};
@@ -7,10 +7,10 @@ ghost use Rattle.dcv_atoms.specs.AtomRows.{atom_machine};
 ghost use Rattle.dcv_atoms.specs.Parts.{atom_nodes};
 ghost use Rattle.dcv_atoms.specs.Steps.{IsAtom};
 ghost use Rattle.dcv_shelf.specs.Stored.{view_table};
-ghost use Rattle.dcv_build.specs.Settled.{Settles};
+ghost use Rattle.dcv_build.specs.Settled.{Settles, SettlesUpTo};
 
 use crate::faults::BuildFault;
-use crate::settling::{Explored, settle};
+use crate::settling::{Explored, Extent, settle};
 use dcv_atoms::{Atom, AtomFault};
 use dcv_chop::{Chop, Star};
 use dcv_core::Core;
@@ -32,7 +32,7 @@ pub(crate) fn atom(
         → Settles (atom_machine slots basic) (atom_nodes slots basic) limits step result }
 {
     match Atom::new(alloc, core, step, limits) {
-        Ok(atom) => settle(alloc, &atom, atom.nodes(), limits, step),
+        Ok(atom) => settle(alloc, &atom, atom.nodes(), limits, step, Extent::Whole),
         Err(AtomFault::Nodes { .. }) => Err(BuildFault::Nodes {
             step,
             limit: limits.nodes,
@@ -48,11 +48,12 @@ pub(crate) fn conjunction(
     second: View<'_>,
     limits: Limits,
     step: u32,
+    extent: Extent,
 ) -> Result<Explored, BuildFault>
     requires { first.stored.slots ≡ second.stored.slots }
-    ensures { Settles (and_machine first.entry.stored.slots (automaton_of (view_table first.entry).table) (automaton_of (view_table second.entry).table)) 0 limits step result }
+    ensures { SettlesUpTo extent (and_machine first.entry.stored.slots (automaton_of (view_table first.entry).table) (automaton_of (view_table second.entry).table)) 0 limits step result }
 {
-    settle(alloc, &And::new(&first, &second), 0, limits, step)
+    settle(alloc, &And::new(&first, &second), 0, limits, step, extent)
 }
 
 // The words that one or the other accepts.
@@ -62,11 +63,12 @@ pub(crate) fn disjunction(
     second: View<'_>,
     limits: Limits,
     step: u32,
+    extent: Extent,
 ) -> Result<Explored, BuildFault>
     requires { first.stored.slots ≡ second.stored.slots }
-    ensures { Settles (or_machine first.entry.stored.slots (automaton_of (view_table first.entry).table) (automaton_of (view_table second.entry).table)) 0 limits step result }
+    ensures { SettlesUpTo extent (or_machine first.entry.stored.slots (automaton_of (view_table first.entry).table) (automaton_of (view_table second.entry).table)) 0 limits step result }
 {
-    settle(alloc, &Or::new(&first, &second), 0, limits, step)
+    settle(alloc, &Or::new(&first, &second), 0, limits, step, extent)
 }
 
 // The words that both accept, or neither does.
@@ -76,11 +78,12 @@ pub(crate) fn agreement(
     second: View<'_>,
     limits: Limits,
     step: u32,
+    extent: Extent,
 ) -> Result<Explored, BuildFault>
     requires { first.stored.slots ≡ second.stored.slots }
-    ensures { Settles (iff_machine first.entry.stored.slots (automaton_of (view_table first.entry).table) (automaton_of (view_table second.entry).table)) 0 limits step result }
+    ensures { SettlesUpTo extent (iff_machine first.entry.stored.slots (automaton_of (view_table first.entry).table) (automaton_of (view_table second.entry).table)) 0 limits step result }
 {
-    settle(alloc, &Iff::new(&first, &second), 0, limits, step)
+    settle(alloc, &Iff::new(&first, &second), 0, limits, step, extent)
 }
 
 // The words of the first, and from their last letter on words of the second.
@@ -90,11 +93,12 @@ pub(crate) fn chop(
     second: View<'_>,
     limits: Limits,
     step: u32,
+    extent: Extent,
 ) -> Result<Explored, BuildFault>
     requires { first.stored.slots ≡ second.stored.slots }
-    ensures { Settles (chop_machine first.entry.stored.slots (automaton_of (view_table first.entry).table) (automaton_of (view_table second.entry).table)) 0 limits step result }
+    ensures { SettlesUpTo extent (chop_machine first.entry.stored.slots (automaton_of (view_table first.entry).table) (automaton_of (view_table second.entry).table)) 0 limits step result }
 {
-    settle(alloc, &Chop::new(&first, &second), 0, limits, step)
+    settle(alloc, &Chop::new(&first, &second), 0, limits, step, extent)
 }
 
 // Words of the operand one after the other.
@@ -103,10 +107,11 @@ pub(crate) fn star(
     operand: View<'_>,
     limits: Limits,
     step: u32,
+    extent: Extent,
 ) -> Result<Explored, BuildFault>
-    ensures { Settles (star_machine operand.entry.stored.slots (automaton_of (view_table operand.entry).table)) 0 limits step result }
+    ensures { SettlesUpTo extent (star_machine operand.entry.stored.slots (automaton_of (view_table operand.entry).table)) 0 limits step result }
 {
-    settle(alloc, &Star::new(&operand), 0, limits, step)
+    settle(alloc, &Star::new(&operand), 0, limits, step, extent)
 }
 
 // The words that some track in the last slot brings into those of the operand.
@@ -115,9 +120,10 @@ pub(crate) fn some_track(
     operand: View<'_>,
     limits: Limits,
     step: u32,
+    extent: Extent,
 ) -> Result<Explored, BuildFault>
     requires { 0 < operand.stored.slots }
-    ensures { Settles (exists_machine (operand.entry.stored.slots - 1) (automaton_of (view_table operand.entry).table)) 0 limits step result }
+    ensures { SettlesUpTo extent (exists_machine (operand.entry.stored.slots - 1) (automaton_of (view_table operand.entry).table)) 0 limits step result }
 {
-    settle(alloc, &Exists::new(&operand), 0, limits, step)
+    settle(alloc, &Exists::new(&operand), 0, limits, step, extent)
 }

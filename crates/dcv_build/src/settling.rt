@@ -1,12 +1,21 @@
 // From a machine to the automaton that is explored for it within the limits, and from that to the canonical one.
 ghost use Rattle.std.specs.Prelude.{◌≡◌, ◌≤◌, ◌-◌, IfOk};
-ghost use Rattle.dcv_build.specs.Settled.{IsLeastMade, Settles, fault_at};
+ghost use Rattle.dcv_build.specs.Settled.{IsLeastMade, ExploresUpTo, SettlesUpTo, fault_at};
 
 use crate::faults::BuildFault;
 use dcv_dfa::{Auto, Raw};
-use dcv_explore::{ExploreFault, Limits, Machine, explore_large};
+use dcv_explore::{ExploreFault, Limits, Machine, explore_large, explore_to_verdict};
 use dcv_minimise::minimise;
 use std::alloc::{AllocError, Global};
+
+// How far a machine is explored.
+#[derive(Clone, Copy)]
+pub(crate) enum Extent {
+    // all states that words reach
+    Whole,
+    // as many as its verdict needs
+    Verdict,
+}
 
 // An automaton as its machine was explored, and what was counted.
 #[derive(Drop)]
@@ -30,25 +39,41 @@ pub(crate) struct Made {
     pub(crate) nodes: u32,
 }
 
-// The automaton of what the machine of a step accepts, with its counts. The parts of its proposition, if it has one, have so many nodes,
-// which count towards the limit.
+// The automaton of what the machine of a step accepts, or one with its verdict, with its counts. The parts of its proposition, if it has one,
+// have so many nodes, which count towards the limit.
 pub(crate) fn settle<M: Machine>(
     alloc: Global,
     machine: &M,
     parts: u32,
     limits: Limits,
     step: u32,
+    extent: Extent,
 ) -> Result<Explored, BuildFault>
     requires { parts ≤ limits.nodes }
-    ensures { Settles (M.machine machine.now) parts limits step result }
+    ensures { SettlesUpTo extent (M.machine machine.now) parts limits step result }
 {
-    match explore_large(alloc, machine, without_parts(limits, parts)) {
+    match explore(alloc, machine, without_parts(limits, parts), extent) {
         Ok(raw) => {
             let states = raw.states();
             let nodes = parts + raw.arena().len();
             Ok(Explored { raw, states, nodes })
         }
         Err(fault) => Err(at_step(step, limits, fault)),
+    }
+}
+
+// The automaton of the machine, explored so far.
+fn explore<M: Machine>(
+    alloc: Global,
+    machine: &M,
+    limits: Limits,
+    extent: Extent,
+) -> Result<Raw, ExploreFault>
+    ensures { ExploresUpTo extent (M.machine machine.now) limits result }
+{
+    match extent {
+        Extent::Whole => explore_large(alloc, machine, limits),
+        Extent::Verdict => explore_to_verdict(alloc, machine, limits),
     }
 }
 

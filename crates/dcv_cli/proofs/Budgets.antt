@@ -8,9 +8,10 @@ use Rattle.dcv_cli.proofs.Common.{StepsAreFew, AreNames, texts_of, Name, Built, 
 use Rattle.std.proofs.lemmas.Option.{slice_get-map}
 use Rattle.dcv_language.specs.Laws.{CanonicalForSameBehaviours}
 use Rattle.dcv_core.specs.Steps.{PlainCore, without_core}
-use Rattle.dcv_build.specs.Budget.{IsRawOf}
+use Rattle.dcv_build.specs.Budget.{accepted_by, HasVerdictOfSet}
 use Rattle.dcv_explore.specs.Budget.{Kind}
 use Rattle.dcv_build.specs.Given.{IsCoreOf, IsCore}
+use Rattle.dcv_build.proofs.SameVerdicts.{same_verdict_after}
 use Rattle.dcv_build.specs.declared.faults.BuildFault.{BuildFault}
 use Rattle.dcv_build.specs.declared.faults.BuildFault.TheVariants.{States as OverStates, Nodes as OverNodes, Memory as NoMemory}
 use Rattle.dcv_cli.specs.ReadFile.{CanBePrinted}
@@ -64,11 +65,14 @@ module _ {text : List ℕ} {file : PlainFile} {formula : FormulaFile} (is : IsRe
   same_words : WordsAreModels → HaveSameBehaviours (length file.variables) (words_of (core_of_file file)) (models file)
   same_words models_are word behaves = models_are file word (no_shift_is_bound file is.spelled.has_core) behaves
 
-  pub raw_of_file : (raw : RawValue) (complemented : Bool) → WordsAreModels → IsRawOf core.declared (words_of (core_of_file file)) raw complemented
-      → IsRawOf (length file.variables) (models file) raw complemented
-  raw_of_file raw complemented models_are accepts =
-      let own = of_file (λ k tree. IsRawOf k (words_of tree) raw complemented) accepts in
-      record { slots = own.slots; accepts = λ word behaves. own.accepts word behaves ∙ same_words models_are word behaves }
+  pub verdict_of_file : (raw : RawValue) (complemented : Bool) → WordsAreModels → HasVerdictOfSet core.declared (words_of (core_of_file file)) raw complemented
+      → HasVerdictOfSet (length file.variables) (models file) raw complemented
+  verdict_of_file raw complemented models_are has =
+      let own = of_file (λ k tree. HasVerdictOfSet k (words_of tree) raw complemented) has in
+      record {
+        slots = own.slots;
+        verdict = same_verdict_after (length file.variables) (accepted_by raw complemented) (words_of (core_of_file file)) (models file) own.verdict (same_words models_are);
+      }
 
   pub automaton_of_file : (auto : RawValue) → WordsAreModels → CanonicalForSameBehaviours → IsAutomatonOf core.declared (words_of (core_of_file file)) auto
       → IsAutomatonOf (length file.variables) (models file) auto

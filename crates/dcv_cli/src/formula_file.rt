@@ -12,7 +12,7 @@ ghost use Rattle.dcv_command.specs.Request.{AreInRange};
 ghost use Rattle.dcv_explore.specs.declared.explorer.Limits.{Limits as AnyLimits};
 ghost use Rattle.dcv_print.specs.Printed.{texts_of};
 ghost use Rattle.dcv_print.specs.Verdict.{seen_verdict};
-ghost use Rattle.dcv_build.specs.Budget.{IsFaultOver, IsRawOf};
+ghost use Rattle.dcv_build.specs.Budget.{IsFaultOver, HasVerdictOfSet};
 ghost use Rattle.dcv_cli.specs.Budget.{steps_of_file, NamesFirstOver, IsAtSomeStep};
 ghost use Rattle.dcv_cli.specs.Comparison.{have_same_texts};
 ghost use Rattle.dcv_cli.specs.FormulaFile.{IsRefused};
@@ -27,11 +27,12 @@ use crate::budget_line::{Excess, Over};
 use crate::faults::{FormulaFault, MOST_BYTES};
 use crate::refusal::Refusal;
 use crate::text::take;
-use dcv_build::{BuildFault, Built, BuiltRaw, build_counted, build_raw};
+use dcv_build::laws::verdict_of_same_verdict;
+use dcv_build::{BuildFault, Built, BuiltForVerdict, build_counted, build_for_verdict};
 use dcv_core::Core;
 use dcv_explore::Limits;
 use dcv_io::Files;
-use dcv_language::laws::{canonical_for_same_behaviours, verdict_of_same_behaviours};
+use dcv_language::laws::canonical_for_same_behaviours;
 use dcv_print::{Verdict, verdict_in};
 use dcv_reader::laws::names_are_short;
 use dcv_reader::read_file;
@@ -112,7 +113,7 @@ impl FormulaFile {
         }
     }
 
-    /// The verdict of the behaviours that model the file, of an automaton that is not minimised: shortest words are found in any.
+    /// The verdict of the behaviours that model the file, of an automaton that has it: no more is explored for the last operator, and nothing minimised.
     pub(crate) fn decide(&self, alloc: Global, limits: Limits) -> Result<Verdict, Refusal>
         requires { IsCore self.now.core }
         ensures decided { (text : List ℕ) (file : PlainFile) → IsRead text file self.now
@@ -120,7 +121,7 @@ impl FormulaFile {
         ensures over { (text : List ℕ) (file : PlainFile) → IsRead text file self.now → IfErr result (NamesFirstOver (steps_of_file file) limits) }
     {
         core_means_text();
-        let built = match build_raw(alloc, &self.core, limits) {
+        let built = match build_for_verdict(alloc, &self.core, limits) {
             Ok(built) => built,
             Err(fault) => return Err(refusal_of(&self.core, fault)),
         };
@@ -154,10 +155,10 @@ fn have_same_names(names: &[Name], others: &[Name]) -> bool
 }
 
 // The verdict of the words for which the automaton was built.
-fn verdict_of(alloc: Global, built: &BuiltRaw) -> Result<Verdict, AllocError>
-    ensures { (k : ℕ) (L : Language) → IsRawOf k L built.now.raw built.now.complemented → IfOk result (λ verdict. IsVerdict k L (seen_verdict verdict)) }
+fn verdict_of(alloc: Global, built: &BuiltForVerdict) -> Result<Verdict, AllocError>
+    ensures { (k : ℕ) (L : Language) → HasVerdictOfSet k L built.now.raw built.now.complemented → IfOk result (λ verdict. IsVerdict k L (seen_verdict verdict)) }
 {
-    verdict_of_same_behaviours();
+    verdict_of_same_verdict();
     let verdict = verdict_in(alloc, &built.raw)?;
     if built.complemented {
         return Ok(Verdict {

@@ -15,7 +15,7 @@ returns-clause-goal c =
     let left = c.make.new.self in
     let explored = c.in_ok-explored.explored in
     let noted = subst (λ (listed : List Count). IsNoted c.args.core.now c.args.last explored.states explored.nodes listed c.note.new.counts.items) (λ i. (c.make.ensures.counts i).items) c.in_ok-note.ensures in
-    let last = made_goal c.args.core.now mid.known.limits c.args.last (tables_at left.known.tables left.waiting.items) mid.counts.items c.note.new.counts.items c.make.result explored c.in_ok-explored.was c.requires.core c.make.ensures.makes noted in
+    let last = made_goal c.args.core.now mid.known.limits c.args.last (tables_at left.known.tables left.waiting.items) mid.counts.items c.note.new.counts.items c.make.result explored c.in_ok-explored.was c.make.ensures.makes noted in
     subst (λ (l : Limits). IsExploredGoal c.args.core.now l (c.args.last + 1) explored.raw c.note.new.counts.items) c.take_steps.ensures.limits last
 
 pub returns-in_err-explored-clause-over : goal.returns-in_err-explored-clause-over

@@ -3,7 +3,7 @@ use Rattle.dcv_language.specs.OperationMachines.{and_machine, or_machine, iff_ma
 use Rattle.dcv_language.specs.Table.{automaton_of}
 use Rattle.dcv_shelf.specs.Stored.{view_table}
 use Rattle.dcv_build.specs.Asked.{KnownValue, AreOperands, SettlesAsked}
-use Rattle.dcv_build.specs.Settled.{Settles}
+use Rattle.dcv_build.specs.Settled.{SettlesUpTo}
 use Rattle.dcv_build.specs.declared.asked.Asked.{Asked}
 use Rattle.dcv_build.specs.declared.asked.Asked.TheVariants.{And}
 use Rattle.dcv_build.proofs.Answered.{from_two, from_one, widths_are}
@@ -18,47 +18,47 @@ conjunction-requires c =
 pub returns-in-And : goal.returns-in-And
 returns-in-And c =
     let inside = c.self.inside in
-    subst (λ (known : KnownValue). SettlesAsked known.tables c.args.asked known.limits c.args.step c.conjunction.result) c.self.view_is
-    (subst (λ (asked : Asked). SettlesAsked inside.shelf.tables asked inside.limits c.args.step c.conjunction.result) (sym c.in-And.is)
-    (from_two inside.shelf.tables (λ slots t u. Settles (and_machine slots (automaton_of t) (automaton_of u)) 0 inside.limits c.args.step c.conjunction.result)
+    subst (λ (known : KnownValue). SettlesAsked c.args.extent known.tables c.args.asked known.limits c.args.step c.conjunction.result) c.self.view_is
+    (subst (λ (asked : Asked). SettlesAsked c.args.extent inside.shelf.tables asked inside.limits c.args.step c.conjunction.result) (sym c.in-And.is)
+    (from_two inside.shelf.tables (λ slots t u. SettlesUpTo c.args.extent (and_machine slots (automaton_of t) (automaton_of u)) 0 inside.limits c.args.step c.conjunction.result)
     c.in-And.first c.in-And.second (view_table c.view.result) (view_table c.view-in-And.result) c.view.ensures.table c.view-in-And.ensures.table c.conjunction.ensures))
 
 pub returns-in-Or : goal.returns-in-Or
 returns-in-Or c =
     let inside = c.self.inside in
-    subst (λ (known : KnownValue). SettlesAsked known.tables c.args.asked known.limits c.args.step c.disjunction.result) c.self.view_is
-    (subst (λ (asked : Asked). SettlesAsked inside.shelf.tables asked inside.limits c.args.step c.disjunction.result) (sym c.in-Or.is)
-    (from_two inside.shelf.tables (λ slots t u. Settles (or_machine slots (automaton_of t) (automaton_of u)) 0 inside.limits c.args.step c.disjunction.result)
+    subst (λ (known : KnownValue). SettlesAsked c.args.extent known.tables c.args.asked known.limits c.args.step c.disjunction.result) c.self.view_is
+    (subst (λ (asked : Asked). SettlesAsked c.args.extent inside.shelf.tables asked inside.limits c.args.step c.disjunction.result) (sym c.in-Or.is)
+    (from_two inside.shelf.tables (λ slots t u. SettlesUpTo c.args.extent (or_machine slots (automaton_of t) (automaton_of u)) 0 inside.limits c.args.step c.disjunction.result)
     c.in-Or.first c.in-Or.second (view_table c.view-in-Or.result) (view_table c.view-in-Or-2.result) c.view-in-Or.ensures.table c.view-in-Or-2.ensures.table c.disjunction.ensures))
 
 pub returns-in-Iff : goal.returns-in-Iff
 returns-in-Iff c =
     let inside = c.self.inside in
-    subst (λ (known : KnownValue). SettlesAsked known.tables c.args.asked known.limits c.args.step c.agreement.result) c.self.view_is
-    (subst (λ (asked : Asked). SettlesAsked inside.shelf.tables asked inside.limits c.args.step c.agreement.result) (sym c.in-Iff.is)
-    (from_two inside.shelf.tables (λ slots t u. Settles (iff_machine slots (automaton_of t) (automaton_of u)) 0 inside.limits c.args.step c.agreement.result)
+    subst (λ (known : KnownValue). SettlesAsked c.args.extent known.tables c.args.asked known.limits c.args.step c.agreement.result) c.self.view_is
+    (subst (λ (asked : Asked). SettlesAsked c.args.extent inside.shelf.tables asked inside.limits c.args.step c.agreement.result) (sym c.in-Iff.is)
+    (from_two inside.shelf.tables (λ slots t u. SettlesUpTo c.args.extent (iff_machine slots (automaton_of t) (automaton_of u)) 0 inside.limits c.args.step c.agreement.result)
     c.in-Iff.first c.in-Iff.second (view_table c.view-in-Iff.result) (view_table c.view-in-Iff-2.result) c.view-in-Iff.ensures.table c.view-in-Iff-2.ensures.table c.agreement.ensures))
 
 pub returns-in-Chop : goal.returns-in-Chop
 returns-in-Chop c =
     let inside = c.self.inside in
-    subst (λ (known : KnownValue). SettlesAsked known.tables c.args.asked known.limits c.args.step c.chop.result) c.self.view_is
-    (subst (λ (asked : Asked). SettlesAsked inside.shelf.tables asked inside.limits c.args.step c.chop.result) (sym c.in-Chop.is)
-    (from_two inside.shelf.tables (λ slots t u. Settles (chop_machine slots (automaton_of t) (automaton_of u)) 0 inside.limits c.args.step c.chop.result)
+    subst (λ (known : KnownValue). SettlesAsked c.args.extent known.tables c.args.asked known.limits c.args.step c.chop.result) c.self.view_is
+    (subst (λ (asked : Asked). SettlesAsked c.args.extent inside.shelf.tables asked inside.limits c.args.step c.chop.result) (sym c.in-Chop.is)
+    (from_two inside.shelf.tables (λ slots t u. SettlesUpTo c.args.extent (chop_machine slots (automaton_of t) (automaton_of u)) 0 inside.limits c.args.step c.chop.result)
     c.in-Chop.first c.in-Chop.second (view_table c.view-in-Chop.result) (view_table c.view-in-Chop-2.result) c.view-in-Chop.ensures.table c.view-in-Chop-2.ensures.table c.chop.ensures))
 
 pub returns-in-Star : goal.returns-in-Star
 returns-in-Star c =
     let inside = c.self.inside in
-    subst (λ (known : KnownValue). SettlesAsked known.tables c.args.asked known.limits c.args.step c.star.result) c.self.view_is
-    (subst (λ (asked : Asked). SettlesAsked inside.shelf.tables asked inside.limits c.args.step c.star.result) (sym c.in-Star.is)
-    (from_one inside.shelf.tables (λ slots t. Settles (star_machine slots (automaton_of t)) 0 inside.limits c.args.step c.star.result)
+    subst (λ (known : KnownValue). SettlesAsked c.args.extent known.tables c.args.asked known.limits c.args.step c.star.result) c.self.view_is
+    (subst (λ (asked : Asked). SettlesAsked c.args.extent inside.shelf.tables asked inside.limits c.args.step c.star.result) (sym c.in-Star.is)
+    (from_one inside.shelf.tables (λ slots t. SettlesUpTo c.args.extent (star_machine slots (automaton_of t)) 0 inside.limits c.args.step c.star.result)
     c.in-Star.operand (view_table c.view-in-Star.result) c.view-in-Star.ensures.table c.star.ensures))
 
 pub returns-in-Exists : goal.returns-in-Exists
 returns-in-Exists c =
     let inside = c.self.inside in
-    subst (λ (known : KnownValue). SettlesAsked known.tables c.args.asked known.limits c.args.step c.some_track.result) c.self.view_is
-    (subst (λ (asked : Asked). SettlesAsked inside.shelf.tables asked inside.limits c.args.step c.some_track.result) (sym c.in-Exists.is)
-    (from_one inside.shelf.tables (λ slots t. Settles (exists_machine (slots - 1) (automaton_of t)) 0 inside.limits c.args.step c.some_track.result)
+    subst (λ (known : KnownValue). SettlesAsked c.args.extent known.tables c.args.asked known.limits c.args.step c.some_track.result) c.self.view_is
+    (subst (λ (asked : Asked). SettlesAsked c.args.extent inside.shelf.tables asked inside.limits c.args.step c.some_track.result) (sym c.in-Exists.is)
+    (from_one inside.shelf.tables (λ slots t. SettlesUpTo c.args.extent (exists_machine (slots - 1) (automaton_of t)) 0 inside.limits c.args.step c.some_track.result)
     c.in-Exists.operand (view_table c.view-in-Exists.result) c.view-in-Exists.ensures.table c.some_track.ensures))
