@@ -1,6 +1,6 @@
 -- Two files that say the canonical automaton of one set are the same up to their access lines: the set has one canonical table, a table has one
 -- list of node lines, and its access words are spelled in one way.
-use Rattle.std.proofs.Common.{◌≡◌, ◌≢◌, ℕ, ◌<◌, true, List, [], ◌++◌, length, map, get_or, sym, ap, ◌∙◌, subst, arith}
+use Rattle.std.proofs.Common.{◌≡◌, ◌≢◌, ℕ, ◌<◌, List, [], ◌++◌, length, map, get_or, sym, ap, ◌∙◌, subst, arith}
 use Rattle.std.specs.List.{AllPairs}
 use Rattle.std.proofs.lemmas.List.{length-map, get_or-map, get_or_default, same_lists}
 use Rattle.dcv_word.specs.Behaviour.{Word}
@@ -14,7 +14,7 @@ use Rattle.dcv_language.specs.declared.child.Child.TheVariants.{State}
 use Rattle.dcv_dfa.specs.NodeLines.{NodeLinesValue}
 use Rattle.dcv_automaton_text.specs.File.{NodeLine, StateLine, AccessLine, AutomatonFile}
 use Rattle.dcv_automaton_text.specs.Meaning.{table_of, access_words_of}
-use Rattle.dcv_automaton_text.specs.Rules.{slot_of, is_listed}
+use Rattle.dcv_automaton_text.specs.Rules.{slot_of}
 use Rattle.dcv_automaton_text.proofs.AccessLines.{IsWordOf, one_access, lines_spell}
 use Rattle.dcv_automaton_text.proofs.GoodFiles.{IsGoodFile, good_file}
 use Rattle.dcv_automaton_text.proofs.GoodTables.{length-table_of, no_line, state-at}

@@ -1,11 +1,10 @@
 -- The file that is printed of an automaton says the canonical automaton of the words that the automaton accepts.
-use Rattle.std.proofs.Common.{◌≡◌, ◌≢◌, ℕ, suc, ◌+◌, ◌<◌, List, [], ◌∷◌, length, map, refl, sym, ap, ◌∙◌, subst, arith}
-use Rattle.std.specs.List.{All, AllPairs, enumerate_from}
+use Rattle.std.proofs.Common.{◌≡◌, ℕ, ◌+◌, List, [], ◌∷◌, length, map, refl, sym, ap, subst, arith}
+use Rattle.std.specs.List.{enumerate_from}
 use Rattle.dcv_word.specs.Behaviour.{Word}
 use Rattle.dcv_language.specs.Canonical.{IsCanonical}
 use Rattle.dcv_language.specs.Certificate.{IsCertificate}
 use Rattle.dcv_language.specs.Table.{Table}
-use Rattle.dcv_dfa.specs.declared.node_lines.NodeLine.{NodeLine}
 use Rattle.dcv_dfa.specs.Laws.{LinesLeadAsTheRows}
 use Rattle.dcv_dfa.specs.NodeLines.{lines_and_rows, node_lines_of, numbered}
 use Rattle.dcv_dfa.specs.Raw.{RawValue, raw_accepts}
