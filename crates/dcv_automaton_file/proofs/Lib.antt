@@ -3,3 +3,5 @@ pub mod ObservedFiles
 pub mod Rows
 pub mod Leading
 pub mod PutLines
+pub mod ListedLines
+pub mod FileLines

@@ -4,6 +4,7 @@ use Rattle.std.proofs.Common.{sym, ap, ◌∙◌, arith}
 use Rattle.std.specs.Prelude.{bytes_eq}
 use Rattle.std.specs.List.{All, AllPairs, enumerate_from}
 use Rattle.std.proofs.lemmas.List.{length-map, get_or-map, same_lists}
+use Rattle.std.proofs.lemmas.List.Folds.{fold-map}
 use Rattle.std.proofs.lemmas.List.FromFn.{length-enumerate_from, get_or-enumerate_from}
 use Rattle.std.proofs.lemmas.Option.{slice_get-get_or}
 use Rattle.std.proofs.lemmas.Slice.Eq.{bytes_eq-Decides}
@@ -48,7 +49,7 @@ slot_at (name ∷ names) (suc slot) differ below =
 
 -- ---- lines
 
-same_state : (states : List ℕ) (child : Child) → plain_state_at states child ≡ state_at states child
+pub same_state : (states : List ℕ) (child : Child) → plain_state_at states child ≡ state_at states child
 same_state states (State state) = refl
 same_state states (Node number) = refl
 
@@ -57,30 +58,23 @@ same_choice : (states : List ℕ) (side : Bool) (hi lo : Child)
 same_choice states true hi lo = same_state states hi
 same_choice states false hi lo = same_state states lo
 
-module _ (names : List (List ℕ)) (differ : AllPairs ◌≢◌ names) (letter : List Bool) where
-  abbrev plain_step : List ℕ → PlainNodeLine → List ℕ
-  plain_step states line = states ++ plain_state_at states (cond (get_or letter (slot_of names line.name) false) line.hi line.lo) ∷ []
+-- a file's line, by the variable's place
+abbrev pub line_for : List (List ℕ) → PlainNodeLine → NodeLine
+line_for names line = record { slot = slot_of names line.name; hi = line.hi; lo = line.lo }
 
-  abbrev step : List ℕ → NodeLine → List ℕ
-  step states line = states ++ state_at states (cond (get_or letter line.slot false) line.hi line.lo) ∷ []
+pub same_states : (names : List (List ℕ)) (letter : List Bool) (lines : List PlainNodeLine) → plain_states_at names letter lines ≡ states_at letter (map (line_for names) lines)
+unfolding plain_states_at states_at
+same_states names letter lines =
+    (λ i. fold (λ states line. states ++ same_choice states (get_or letter (slot_of names line.name) false) line.hi line.lo i ∷ []) [] lines)
+    ∙ sym (fold-map (λ states (line : NodeLine). states ++ state_at states (cond (get_or letter line.slot false) line.hi line.lo) ∷ []) (line_for names) [] lines)
 
-  same_step : (states : List ℕ) (number : ℕ) (line : NodeLine) → line.slot < length names
-      → plain_step states (node_line names (number, line)) ≡ step states line
-  same_step states number line below =
-      ap (λ slot. states ++ plain_state_at states (cond (get_or letter slot false) line.hi line.lo) ∷ []) (slot_at names line.slot differ below)
-      ∙ ap (λ state. states ++ state ∷ []) (same_choice states (get_or letter line.slot false) line.hi line.lo)
-
-  same_steps : (lines : List NodeLine) (first : ℕ) (states : List ℕ) → All (λ (line : NodeLine). line.slot < length names) lines
-      → fold plain_step states (map (node_line names) (enumerate_from first lines)) ≡ fold step states lines
-  same_steps [] first states below = refl
-  same_steps (line ∷ lines) first states below =
-      ap (λ more. fold plain_step more (map (node_line names) (enumerate_from (first + 1) lines))) (same_step states first line (below 0 line (omega arith)))
-      ∙ same_steps lines (first + 1) (step states line) (λ k d within. below (suc k) d (omega arith))
-
-  same_states : (lines : List NodeLine) → All (λ (line : NodeLine). line.slot < length names) lines
-      → plain_states_at names letter (map (node_line names) (enumerate_from 0 lines)) ≡ states_at letter lines
-  unfolding plain_states_at states_at
-  same_states lines below = same_steps lines 0 [] below
+pub lines_back : (names : List (List ℕ)) → AllPairs ◌≢◌ names → (lines : List NodeLine) (first : ℕ) → All (λ (line : NodeLine). line.slot < length names) lines
+    → map (line_for names) (map (node_line names) (enumerate_from first lines)) ≡ lines
+lines_back names differ [] first below = refl
+lines_back names differ (line ∷ lines) first below =
+    let slot = slot_at names line.slot differ (below 0 line (omega arith)) in
+    let rest = lines_back names differ lines (first + 1) (λ k d within. below (suc k) d (omega arith)) in
+    λ i. record { slot = slot i; hi = line.hi; lo = line.lo } ∷ rest i
 
 -- ---- rows
 
@@ -114,7 +108,7 @@ file_table lead raw names access suffixes is =
     let place : 0 + k ≡ k = omega arith in
     let row = get_or all.rows k (State 0) in
     let same = λ (letter : List Bool).
-    ap (λ values. plain_state_at values row) (same_states names is.are_names.differ letter all.lines below)
+    ap (λ values. plain_state_at values row) (same_states names letter file.node_lines ∙ ap (states_at letter) (lines_back names is.are_names.differ all.lines 0 below))
     ∙ same_state (states_at letter all.lines) row
     ∙ lead raw k letter is.is_raw here in
     at

@@ -11,7 +11,6 @@ use Rattle.std.specs.List.{enumerate_from}
 use Rattle.dcv_syntax.specs.declared.names.Name.{Name}
 use Rattle.dcv_language.specs.Limits.{number_bound}
 use Rattle.dcv_language.specs.declared.child.Child.{Child}
-use Rattle.dcv_language.specs.declared.child.Child.TheVariants.{State, Node}
 use Rattle.dcv_dfa.specs.declared.node_lines.NodeLine.{NodeLine as CodeNodeLine}
 use Rattle.dcv_dfa.specs.Raw.{RawValue, is_accepting}
 use Rattle.dcv_dfa.specs.NodeLines.{node_lines_of, IsBelow}

@@ -1,22 +1,24 @@
 -- One controller, or one strategy, is right for a file.
 use Rattle.dcv_cli.proofs.Common.{◌≡◌, ℕ, ◌+◌, ◌-◌, List, ◌++◌, codes, length, sym, ap, ◌∙◌, subst, take, decimal, flat_map, PlainFile}
-use Rattle.dcv_cli.proofs.Common.{models, Language, Table, automaton_of, line, text_of, CUnit, IsControlOf, IsUnrealisable, Outcome}
+use Rattle.dcv_cli.proofs.Common.{models, Language, Table, automaton_of, line, text_of, IsUnrealisable, Outcome}
 use Rattle.dcv_cli.proofs.Common.{controller_text, move_line, strategy_text, SaysController, SaysStrategy, IsSynthesis, Realisable}
 use Rattle.dcv_cli.proofs.Common.{Unrealisable, IsSynthesisOf}
 use Rattle.dcv_language.specs.Laws.{OneCanonicalTable}
 use Rattle.dcv_automaton_file.specs.File.{texts_of}
-use Rattle.dcv_synth.specs.Laws.{NotBothAreRight, OneStrategyIsRight, OneUnitIsRight}
+use Rattle.dcv_synth.specs.Laws.{LeastLinesAreOne, NotBothAreRight, OneStrategyIsRight}
+use Rattle.dcv_synth.specs.Least.{AreLeastLines}
+use Rattle.dcv_synth.specs.Units.{ControlLines, unit_of_lines}
 use Rattle.dcv_cli.proofs.OneCertificate.{same_outcome}
 
-module _ (one_table : OneCanonicalTable) (one_unit : OneUnitIsRight) (one_strategy : OneStrategyIsRight) (not_both : NotBothAreRight) where
+module _ (one_table : OneCanonicalTable) (one_list : LeastLinesAreOne) (one_strategy : OneStrategyIsRight) (not_both : NotBothAreRight) where
   module _ (n m : ℕ) (L : Language) (names : List (List ℕ)) where
     -- which controller is right, or which strategy, is a question of the one canonical table
     one_controller : (text other : List ℕ) → SaysController n m L names text → SaysController n m L names other → text ≡ other
     one_controller text other x y =
         let table = (one_table (n + m) L x.table y.table x.access y.access x.canonical y.canonical).0 in
-        let least = subst (λ (table : Table). IsControlOf n m (automaton_of table) x.control) table x.least in
-        let unit = one_unit names n m (automaton_of y.table) x.control y.control x.rows y.rows least y.least in
-        x.says ∙ ap (λ (unit : CUnit). controller_text (text_of unit)) unit ∙ sym y.says
+        let least = subst (λ (table : Table). AreLeastLines n m (automaton_of table) names x.lines) table x.least in
+        let lines = one_list names n m (automaton_of y.table) x.lines y.lines least y.least in
+        x.says ∙ ap (λ (lines : ControlLines). controller_text (text_of (unit_of_lines lines))) lines ∙ sym y.says
 
     one_list_of_moves : (text other : List ℕ) → SaysStrategy n m L text → SaysStrategy n m L other → text ≡ other
     one_list_of_moves text other x y =
@@ -30,7 +32,7 @@ module _ (one_table : OneCanonicalTable) (one_unit : OneUnitIsRight) (one_strate
     not_both_are_said : (text other : List ℕ) → SaysController n m L names text → SaysStrategy n m L other → ⊥
     not_both_are_said text other x y =
         let table = (one_table (n + m) L x.table y.table x.access y.access x.canonical y.canonical).0 in
-        not_both n m (automaton_of y.table) y.strategy (subst (λ (table : Table). IsControlOf n m (automaton_of table) x.control) table x.least).realisable y.least
+        not_both n m (automaton_of y.table) y.strategy (subst (λ (table : Table). AreLeastLines n m (automaton_of table) names x.lines) table x.least).realisable y.least
 
     one_synthesis : (a b : Outcome) → IsSynthesis n m L names a → IsSynthesis n m L names b → a ≡ b
     one_synthesis a b (Realisable x status message) (Realisable y status' message') =

@@ -14,10 +14,9 @@ use Rattle.dcv_dfa.specs.Raw.{automaton_of}
 use Rattle.dcv_c.specs.Faults.{IsReadAs}
 use Rattle.dcv_c.specs.Form.{IsSpellable}
 use Rattle.dcv_c.specs.Rules.{IsWellNamed}
-use Rattle.dcv_synth.specs.Control.{IsControl}
-use Rattle.dcv_synth.specs.Laws.{ControlsOfLikeAutomata, StrategiesOfLikeAutomata, TablesGoOnAlike}
+use Rattle.dcv_synth.specs.Control.{lines_of, unit_of}
+use Rattle.dcv_synth.specs.Laws.{ControlsHaveLeastLines, ControlsOfLikeAutomata, HasUnit, StrategiesOfLikeAutomata, TablesGoOnAlike}
 use Rattle.dcv_synth.specs.SameSteps.{GoOnAlike}
-use Rattle.dcv_synth.specs.Units.{unit_of}
 use Rattle.dcv_cli.specs.Synthesised.{synthesised}
 use Rattle.dcv_cli.specs.declared.synth.Synthesis.{Synthesis}
 use Rattle.dcv_cli.specs.declared.synth.Synthesis.TheVariants.{Controller as FoundController, Strategy as FoundStrategy}
@@ -35,7 +34,7 @@ divided inputs variables is =
 
 -- ---- the names of the inputs
 
-some_names : (n : ℕ) (names : List (List ℕ)) → AreNames names → AreNames (take n names)
+pub some_names : (n : ℕ) (names : List (List ℕ)) → AreNames names → AreNames (take n names)
 some_names n names are = record {
   count = omega (arith, are.count, length-take n names);
   each = All-take IsPlainName n names are.each;
@@ -55,18 +54,17 @@ names_of_inputs n names are = subst AreNames (texts_of_some n names) (some_names
 -- ---- of a canonical table
 
 module _ (n m : ℕ) (L : Language) (table : Table) (access : List Word) (canonical : IsCanonical (n + m) L table access) where
-  pub says_controller_of : ControlsWin → WinsOverSameBehaviours → TextIsReadBack → (names : List (List ℕ)) (control : ControlValue) (unit : CUnit) → IsControl control
+  pub says_controller_of : ControlsWin → ControlsHaveLeastLines → WinsOverSameBehaviours → TextIsReadBack → (names : List (List ℕ)) (control : ControlValue) (unit : CUnit) → HasUnit names control
       → IsControlOf n m (table_automaton table) control → unit ≡ unit_of names control → IsSpellable unit → IsWellNamed unit
       → (Wins n m L (controller_by m control) → Wins n m L (controller_in m unit)) → SaysController n m L names (controller_text (text_of unit))
-  says_controller_of win over back names control unit rows least same form named carries =
+  says_controller_of win lines over back names control unit has least same form named carries =
       let won = over n m (table_accepts table) L (controller_by m control) canonical.exact (win n m (table_automaton table) control refl least) in
       record {
         table = table;
         access = access;
         canonical = canonical;
-        control = control;
-        rows = rows;
-        least = least;
+        lines = lines_of names control;
+        least = lines names n m (table_automaton table) control has least;
         says = ap (λ (one : CUnit). controller_text (text_of one)) same;
         read = subst (λ (one : CUnit). IsReadAs (text_of one) one) same (back unit form named);
         wins = subst (λ (one : CUnit). Wins n m L (controller_in m one)) same (carries won);
@@ -97,12 +95,13 @@ module _ (tables : TablesGoOnAlike) (n m : ℕ) (L : Language) (raw : RawValue) 
   alike : GoOnAlike (n + m) (automaton_of raw) (table_automaton (table_of_states raw))
   alike = subst (λ k. GoOnAlike k (automaton_of raw) (table_automaton (table_of_states raw))) is.of.slots (tables raw is.raw_is is.start)
 
-  pub says_controller : ControlsOfLikeAutomata → ControlsWin → WinsOverSameBehaviours → TextIsReadBack → (names : List (List ℕ)) (control : ControlValue) (unit : CUnit) → IsControl control
+  pub says_controller : ControlsOfLikeAutomata → ControlsWin → ControlsHaveLeastLines → WinsOverSameBehaviours → TextIsReadBack → (names : List (List ℕ)) (control : ControlValue) (unit : CUnit)
+      → HasUnit names control
       → IsControlOf n m (automaton_of raw) control → unit ≡ unit_of names control → IsSpellable unit → IsWellNamed unit
       → ((m : ℕ) (L : Language) → Wins control.next.arena.slots m L (controller_by m control) → Wins control.next.arena.slots m L (controller_in m unit))
       → SaysController n m L names (controller_text (text_of unit))
-  says_controller controls win over back names control unit rows control_is same form named carries =
-      says_controller_of n m L (table_of_states raw) is.of.access is.of.canonical win over back names control unit rows
+  says_controller controls win lines over back names control unit has control_is same form named carries =
+      says_controller_of n m L (table_of_states raw) is.of.access is.of.canonical win lines over back names control unit has
       (controls n m (automaton_of raw) (table_automaton (table_of_states raw)) control alike control_is) same form named
       (subst (λ k. Wins k m L (controller_by m control) → Wins k m L (controller_in m unit)) control_is.next.slots (carries m L))
 

@@ -15,12 +15,12 @@ use Rattle.dcv_word.specs.TraceLine.{trace_line}
 use Rattle.dcv_language.specs.Canonical.{IsCanonical}
 use Rattle.dcv_language.specs.Table.{Table, automaton_of}
 use Rattle.dcv_automaton_file.specs.File.{texts_of}
-use Rattle.dcv_synth.specs.Control.{ControlValue, IsControl, IsControlOf}
 use Rattle.dcv_synth.specs.Game.{Wins, Beats}
+use Rattle.dcv_synth.specs.Least.{AreLeastLines}
 use Rattle.dcv_synth.specs.Moves.{input_at}
 use Rattle.dcv_synth.specs.Outcome.{IsUnrealisable}
 use Rattle.dcv_synth.specs.Play.{environment_of}
-use Rattle.dcv_synth.specs.Units.{unit_of, controller_in}
+use Rattle.dcv_synth.specs.Units.{ControlLines, unit_of_lines, controller_in}
 use Rattle.dcv_synth.specs.declared.strategy.Move.{Move}
 use Rattle.dcv_synth.specs.declared.strategy.Strategy.{Strategy}
 use Rattle.dcv_cli.specs.Budget.{IsBudgeted}
@@ -51,14 +51,14 @@ pub record SaysController (n m : ℕ) (L : Language) (names : List (List ℕ)) (
   pub table : Table
   pub access : List Word
   pub canonical : IsCanonical (n + m) L table access
-  pub control : ControlValue
-  pub rows : IsControl control
-  pub least : IsControlOf n m (automaton_of table) control
-  pub says : text ≡ controller_text (text_of (unit_of names control))
+  -- the lines of the controller of least outputs
+  pub lines : ControlLines
+  pub least : AreLeastLines n m (automaton_of table) names lines
+  pub says : text ≡ controller_text (text_of (unit_of_lines lines))
   -- What stands after the line is a sentence of the subset of C, which keeps the rules of names. Its steps, asked with any inputs, return
   -- outputs with which each behaviour that is made is in the set.
-  pub read : IsReadAs (text_of (unit_of names control)) (unit_of names control)
-  pub wins : Wins n m L (controller_in m (unit_of names control))
+  pub read : IsReadAs (text_of (unit_of_lines lines)) (unit_of_lines lines)
+  pub wins : Wins n m L (controller_in m (unit_of_lines lines))
 
 pub record SaysStrategy (n m : ℕ) (L : Language) (text : List ℕ) : Type 0 where
   pub table : Table

@@ -24,8 +24,8 @@ use dcv_scope::laws::{core_means_text, measures_bound_core};
 use dcv_stuck::laws::never_stuck_goes_on;
 use dcv_sweep::laws::one_summary;
 use dcv_synth::laws::{
-    answers_are_one, controls_win, one_side_is_right, some_player_wins, strategies_beat,
-    units_answer, units_are_one, winners_of_same_behaviours,
+    answers_are_one, controls_win, least_lines_are_one, one_side_is_right, some_player_wins,
+    strategies_beat, units_answer, winners_of_same_behaviours,
 };
 
 /// The promise of the program, of whatever is right where the words ask for `all` of a text: its first fault is named, or the first step that
@@ -67,7 +67,7 @@ pub fn one_outcome()
     one_canonical_table();
     answers_are_one();
     one_side_is_right();
-    units_are_one();
+    least_lines_are_one();
 }
 
 /// Some outcome is right for all words, where the files that they name are held. So no words, and no texts, leave [`run`](crate::run)
@@ -98,6 +98,7 @@ pub fn some_outcome()
     strategies_beat();
     winners_of_same_behaviours();
     units_answer();
+    least_lines_are_one();
     never_stuck_goes_on();
 }
 

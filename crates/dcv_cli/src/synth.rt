@@ -27,7 +27,8 @@ use dcv_io::{Sink, Target, put_pieces};
 use dcv_print::put_letter;
 use dcv_syntax::Name;
 use dcv_synth::laws::{
-    answers_are_of_tables, controls_win, strategies_beat, winners_of_same_behaviours,
+    answers_are_of_tables, controls_win, least_lines_are_one, strategies_beat,
+    winners_of_same_behaviours,
 };
 use dcv_synth::{Control, Move, Outcome, Strategy, synth};
 use itoa::Buffer;
@@ -122,6 +123,7 @@ fn controller(
     answers_are_of_tables();
     controls_win();
     winners_of_same_behaviours();
+    least_lines_are_one();
     texts_spell_units();
     // for the prover: what is true of every canonical automaton, and of every controller.
     let _ = built.auto.states();

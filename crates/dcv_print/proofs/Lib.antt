@@ -1,5 +1,3 @@
-mod FileArenas
-mod FileNumbers
 mod LeastWords
 mod Observers
 mod OneAutomaton

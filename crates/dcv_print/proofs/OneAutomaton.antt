@@ -1,6 +1,6 @@
 -- Two files that say the canonical automaton of one set are the same up to their access lines: the set has one canonical table, a table has one
 -- list of node lines, and its access words are spelled in one way.
-use Rattle.std.proofs.Common.{◌≡◌, ◌≢◌, ℕ, ◌<◌, true, List, [], ◌++◌, length, map, get_or, sym, ap, ◌∙◌, subst, arith}
+use Rattle.std.proofs.Common.{◌≡◌, ◌≢◌, ℕ, ◌<◌, List, [], ◌++◌, length, map, get_or, sym, ap, ◌∙◌, subst, arith}
 use Rattle.std.specs.List.{AllPairs}
 use Rattle.std.proofs.lemmas.List.{length-map, get_or-map, get_or_default, same_lists}
 use Rattle.dcv_word.specs.Behaviour.{Word}
@@ -11,18 +11,20 @@ use Rattle.dcv_language.specs.Laws.{OneCanonicalTable}
 use Rattle.dcv_language.specs.Table.{TableState, Table, no_state}
 use Rattle.dcv_dfa.specs.declared.node_lines.NodeLine.{NodeLine as CodeNodeLine}
 use Rattle.dcv_language.specs.declared.child.Child.TheVariants.{State}
-use Rattle.dcv_dfa.specs.Laws.{OneTableHasOneListOfLines}
-use Rattle.dcv_dfa.specs.NodeLines.{NodeLinesValue, lines_and_rows, node_lines_of}
+use Rattle.dcv_dfa.specs.NodeLines.{NodeLinesValue}
 use Rattle.dcv_automaton_text.specs.File.{NodeLine, StateLine, AccessLine, AutomatonFile}
 use Rattle.dcv_automaton_text.specs.Meaning.{table_of, access_words_of}
-use Rattle.dcv_automaton_text.specs.Rules.{slot_of, is_listed}
+use Rattle.dcv_automaton_text.specs.Rules.{slot_of}
 use Rattle.dcv_automaton_text.proofs.AccessLines.{IsWordOf, one_access, lines_spell}
 use Rattle.dcv_automaton_text.proofs.GoodFiles.{IsGoodFile, good_file}
 use Rattle.dcv_automaton_text.proofs.GoodTables.{length-table_of, no_line, state-at}
 use Rattle.dcv_print.specs.Automaton.{IsAutomatonOf, AreSameUpToAccess}
 use Rattle.dcv_print.specs.Laws.{OneAutomaton}
-use Rattle.dcv_print.proofs.FileArenas.{raw_of, no_node, raw_has_the_table, same_name, is_raw}
-use Rattle.dcv_print.proofs.FileNumbers.{line_for, numbered_lines}
+use Rattle.dcv_automaton_text.proofs.InWords.{good_files_in_words}
+use Rattle.dcv_automaton_file.specs.Listed.{AreListed}
+use Rattle.dcv_automaton_file.proofs.FileLines.{lines_of, no_node, same_name, listed_lines, same_numbers}
+use Rattle.dcv_automaton_file.proofs.ListedLines.{one_listing}
+use Rattle.dcv_automaton_file.proofs.Tables.{line_for}
 
 -- ---- access words
 
@@ -37,12 +39,12 @@ words_have_letters k L table words is state later within = (is.least state later
 -- ---- lines
 
 module _ (names : List (List ℕ)) where
-  one_node : (place : ℕ) (one other : NodeLine) → one.number ≡ place → other.number ≡ place → is_listed names one.name ≡ true → is_listed names other.name ≡ true
+  one_node : (place : ℕ) (one other : NodeLine) → one.number ≡ place → other.number ≡ place → slot_of names one.name < length names → slot_of names other.name < length names
       → line_for names one ≡ line_for names other → one ≡ other
-  one_node place one other number its_number listed its_listed same =
+  one_node place one other number its_number within its_within same =
       let numbers = number ∙ sym its_number in
       let slots : slot_of names one.name ≡ slot_of names other.name = ap (λ (line : CodeNodeLine). line.slot) same in
-      let name = same_name names one.name other.name listed its_listed slots in
+      let name = same_name names one.name other.name within its_within slots in
       let hi = ap (λ (line : CodeNodeLine). line.hi) same in
       let lo = ap (λ (line : CodeNodeLine). line.lo) same in
       λ i. record { number = numbers i; name = name i; hi = hi i; lo = lo i }
@@ -61,30 +63,26 @@ one_access_line place one other number its_number access =
 
 module _ (k : ℕ) (L : Language) (names : List (List ℕ)) (one other : AutomatonFile) (is : IsAutomatonOf k L names one) (its : IsAutomatonOf k L names other)
     (good : IsGoodFile one) (good_other : IsGoodFile other) (tables : table_of one ≡ table_of other) (words : access_words_of one ≡ access_words_of other)
-    (lines : node_lines_of (raw_of one) ≡ node_lines_of (raw_of other)) where
+    (lines : lines_of one ≡ lines_of other) where
   same_names : one.names ≡ other.names
   same_names = is.variables ∙ sym its.variables
 
   same_count : one.states ≡ other.states
   same_count = sym good.states ∙ sym (length-table_of one) ∙ ap length tables ∙ length-table_of other ∙ good_other.states
 
-  same_all : lines_and_rows (map (line_for one.names) one.node_lines) (map (λ (line : StateLine). line.row) one.state_lines)
-      ≡ lines_and_rows (map (line_for other.names) other.node_lines) (map (λ (line : StateLine). line.row) other.state_lines)
-  same_all = sym (numbered_lines one good is.numbered) ∙ lines ∙ numbered_lines other good_other its.numbered
-
   same_plain : map (line_for one.names) one.node_lines ≡ map (line_for one.names) other.node_lines
-  same_plain = ap (λ (all : NodeLinesValue). all.lines) same_all ∙ (λ i. map (line_for (sym same_names i)) other.node_lines)
+  same_plain = ap (λ (all : NodeLinesValue). all.lines) lines ∙ (λ i. map (line_for (sym same_names i)) other.node_lines)
 
   same_node_lines : one.node_lines ≡ other.node_lines
   same_node_lines =
       let size = sym (length-map one.node_lines (line_for one.names)) ∙ ap length same_plain ∙ length-map other.node_lines (line_for one.names) in
       same_lists one.node_lines other.node_lines size (λ place d within.
       let its_within : place < length other.node_lines = omega arith in
-      let node = good.node place d within in
-      let its_node = good_other.node place d its_within in
+      let node = ((good_files_in_words one).0 is.rules).node_lines place d within in
+      let its_node = ((good_files_in_words other).0 its.rules).node_lines place d its_within in
       let e = line_for one.names no_node in
-      one_node one.names place (get_or one.node_lines place d) (get_or other.node_lines place d) node.number its_node.number node.listed
-      (ap (λ names. is_listed names (get_or other.node_lines place d).name) same_names ∙ its_node.listed)
+      one_node one.names place (get_or one.node_lines place d) (get_or other.node_lines place d) node.number its_node.number node.variable
+      (subst (λ names. slot_of names (get_or other.node_lines place d).name < length names) (sym same_names) its_node.variable)
       (sym (get_or-map (line_for one.names) one.node_lines place d e within)
       ∙ ap (λ lines. get_or lines place e) same_plain
       ∙ get_or-map (line_for one.names) other.node_lines place d e its_within))
@@ -92,7 +90,7 @@ module _ (k : ℕ) (L : Language) (names : List (List ℕ)) (one other : Automat
   same_state_lines : one.state_lines ≡ other.state_lines
   same_state_lines =
       let child = λ (line : StateLine). line.row in
-      let rows = ap (λ (all : NodeLinesValue). all.rows) same_all in
+      let rows = ap (λ (all : NodeLinesValue). all.rows) lines in
       let size = good.states ∙ same_count ∙ sym good_other.states in
       same_lists one.state_lines other.state_lines size (λ place d within.
       let its_within : place < length other.state_lines = omega arith in
@@ -117,11 +115,22 @@ module _ (k : ℕ) (L : Language) (names : List (List ℕ)) (one other : Automat
   same_files : AreSameUpToAccess one other
   same_files = record { names = same_names; states = same_count; node_lines = same_node_lines; state_lines = same_state_lines; access_lines = same_access_lines }
 
-pub one_automaton : OneCanonicalTable → OneTableHasOneListOfLines → OneAutomaton
-one_automaton one_table one_list k L names one other is its =
-    let good = good_file one is.rules in
-    let good_other = good_file other its.rules in
+-- files with one table have the same lines
+same_lines : (k : ℕ) (L : Language) (names : List (List ℕ)) (one other : AutomatonFile) → IsAutomatonOf k L names one → IsAutomatonOf k L names other
+    → table_of one ≡ table_of other → lines_of one ≡ lines_of other
+same_lines k L names one other is its tables =
+    let good = (good_files_in_words one).0 is.rules in
+    let good_other = (good_files_in_words other).0 its.rules in
+    let variables = is.variables ∙ sym its.variables in
+    let states : one.states ≡ other.states = sym good.all_states ∙ sym (length-table_of one) ∙ ap length tables ∙ length-table_of other ∙ good_other.all_states in
+    let narrow = good.names.count in
+    let count = good.all_states in
+    let its_count = good_other.all_states in
+    one_listing (length one.names) one.states one.states (lines_of one) (lines_of other) (omega arith) (listed_lines one good is.numbered)
+    (subst (λ (parts : List (List ℕ) × ℕ). AreListed (length parts.0) parts.1 parts.1 (lines_of other)) (λ i. (sym variables i, sym states i)) (listed_lines other good_other its.numbered))
+    (λ place letter within width. same_numbers one other variables tables place letter (omega arith) (omega arith) width)
+
+pub one_automaton : OneCanonicalTable → OneAutomaton
+one_automaton one_table k L names one other is its =
     let same = one_table k L (table_of one) (table_of other) (access_words_of one) (access_words_of other) is.canonical its.canonical in
-    let slots = ap length (is.variables ∙ sym its.variables) in
-    let lines = one_list (raw_of one) (raw_of other) (is_raw one good) (is_raw other good_other) slots (raw_has_the_table one ∙ same.0 ∙ sym (raw_has_the_table other)) in
-    same_files k L names one other is its good good_other same.0 same.1 lines
+    same_files k L names one other is its (good_file one is.rules) (good_file other its.rules) same.0 same.1 (same_lines k L names one other is its same.0)

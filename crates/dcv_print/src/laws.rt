@@ -47,7 +47,6 @@ pub fn one_automaton()
     ensures { OneAutomaton }
 {
     one_canonical_table();
-    lines_are_of_tables();
 }
 
 /// What says the automaton of a set says that of each set with the same behaviours.

@@ -6,6 +6,7 @@ mod Descents
 mod Examples
 mod Forced
 mod Keeping
+mod LeastLines
 mod LeastMoves
 mod LeastOutputs
 pub mod Listed
@@ -27,7 +28,7 @@ mod Unbeaten
 mod UnitForms
 mod UnitLines
 mod UnitMade
-mod UnitOf
+pub mod UnitOf
 mod UnitRules
 mod UnitRuns
 mod UnitSteps

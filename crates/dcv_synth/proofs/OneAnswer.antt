@@ -1,11 +1,12 @@
 -- There is one controller of least outputs, and one strategy of least moves.
-use Rattle.std.proofs.Common.{◌≡◌, ℕ, zero, suc, ◌<◌, Bool, true, false, List, [], ◌∷◌, get_or, Contains, refl, ap, sym, ◌∙◌, subst, arith}
+use Rattle.std.proofs.Common.{◌≡◌, ℕ, zero, suc, ◌<◌, Bool, true, false, List, [], ◌∷◌, get_or, Contains, ◌↔◌, refl, ap, sym, ◌∙◌, subst, arith}
 use Rattle.std.specs.List.{AllPairs}
 use Rattle.std.proofs.lemmas.Option.{slice_get-get_or}
 use Rattle.dcv_word.specs.Letter.{bits_of}
 use Rattle.dcv_language.specs.Automaton.{Automaton}
 use Rattle.dcv_synth.specs.Winning.{IsWin}
 use Rattle.dcv_synth.specs.Play.{answer_of, IsStartOr}
+use Rattle.dcv_synth.specs.Realisable.{IsRealisable}
 use Rattle.dcv_synth.specs.Control.{RowsValue, AreRowsOf}
 use Rattle.dcv_synth.specs.Laws.{AreTheSameRows, OneControlIsRight, OneStrategyIsRight}
 use Rattle.dcv_synth.specs.declared.strategy.Move.{Move}
@@ -64,6 +65,20 @@ one_win n m automaton one other a b state = by (one state) (other state) (b.grea
     by false true f g = g refl
     by false false f g = refl
 
+module _ (n m : ℕ) (automaton : Automaton ℕ) (one other : IsRealisable n m automaton) where
+  pub wins_are_one : ◌≡◌ {A = ℕ → Bool} one.win other.win
+  wins_are_one = λ i state. one_win n m automaton one.win other.win one.greatest other.greatest state i
+
+  -- the start, and the states of Win
+  abbrev AreStates : (ℕ → Bool) → List ℕ → Type 0
+  AreStates win states = (state : ℕ) → Contains states state ↔ IsStartOr automaton win state
+
+  pub states_are_one : (states others : List ℕ) → InOrder (λ state. state) states → InOrder (λ state. state) others → AreStates one.win states → AreStates other.win others → states ≡ others
+  states_are_one states others order its_order are its =
+      same_in_order (λ state. state) states others order its_order
+      (λ state there. (its state).1 (subst (λ win. IsStartOr automaton win state) wins_are_one ((are state).0 there)))
+      (λ state there. (are state).1 (subst (λ win. IsStartOr automaton win state) (sym wins_are_one) ((its state).0 there)))
+
 rows_are_one : (n : ℕ) (states : List ℕ) (f : ℕ → List Bool → ℕ) (one other : RowsValue) → AreRowsOf n states f one → AreRowsOf n states f other → AreTheSameRows n one other
 rows_are_one n states f one other a b = record {
   count = a.count ∙ sym b.count;
@@ -74,12 +89,8 @@ rows_are_one n states f one other a b = record {
 
 pub one_control_is_right : OneControlIsRight
 one_control_is_right n m automaton one other a b =
-    let wins : ◌≡◌ {A = ℕ → Bool} a.realisable.win b.realisable.win =
-    λ i state. one_win n m automaton a.realisable.win b.realisable.win a.realisable.greatest b.realisable.greatest state i in
-    let states : one.states ≡ other.states =
-    same_in_order (λ state. state) one.states other.states a.in_order b.in_order
-    (λ state there. (b.states state).1 (subst (λ win. IsStartOr automaton win state) wins ((a.states state).0 there)))
-    (λ state there. (a.states state).1 (subst (λ win. IsStartOr automaton win state) (sym wins) ((b.states state).0 there))) in
+    let wins = wins_are_one n m automaton a.realisable b.realisable in
+    let states = states_are_one n m automaton a.realisable b.realisable one.states other.states a.in_order b.in_order a.states b.states in
     record {
       states = states;
       next = rows_are_one n other.states (λ state input. (answer_of m automaton b.realisable.win state input).0) one.next other.next

@@ -1,12 +1,11 @@
 -- Controllers that do the same have one unit.
-use Rattle.std.proofs.Common.{◌≡◌, ℕ, List, refl, sym, ◌∙◌, subst}
+use Rattle.std.proofs.Common.{◌≡◌, ℕ, List, refl, sym, ◌∙◌}
 use Rattle.dcv_language.specs.Limits.{number_bound}
 use Rattle.dcv_dfa.specs.NodeLines.{lines_of_rows}
 use Rattle.dcv_dfa.specs.Laws.{SameRowsHaveOneListOfLines}
 use Rattle.dcv_synth.specs.Control.{RowsValue, AreRowsBelow}
 use Rattle.dcv_synth.specs.Units.{unit_of_lines}
-use Rattle.dcv_synth.specs.Laws.{AreTheSameRows, AreTheSameControl, SameControlsHaveOneUnit, OneUnitIsRight}
-use Rattle.dcv_synth.proofs.OneAnswer.{one_control_is_right}
+use Rattle.dcv_synth.specs.Laws.{AreTheSameRows, SameControlsHaveOneUnit}
 
 module _ (law : SameRowsHaveOneListOfLines) where
   same_lines : (n bound : ℕ) (states others : List ℕ) (one other : RowsValue) → AreRowsBelow bound states one → AreRowsBelow bound others other
@@ -21,9 +20,3 @@ module _ (law : SameRowsHaveOneListOfLines) where
       let next = same_lines n number_bound one.states other.states one.next other.next a.next b.next refl (sym slots) same.next in
       let output = same_lines n 256 one.states other.states one.output other.output a.output b.output a.inputs (b.inputs ∙ sym slots) same.output in
       λ i. unit_of_lines (record { names = names; states = same.states i; next = next i; output = output i })
-
-  pub one_unit_is_right : OneUnitIsRight
-  one_unit_is_right names n m automaton one other a b is also =
-      let slots : one.next.arena.slots ≡ other.next.arena.slots = is.next.slots ∙ sym also.next.slots in
-      same_controls_have_one_unit names one other a b slots
-      (subst (λ n. AreTheSameControl n one other) (sym is.next.slots) (one_control_is_right n m automaton one other is also))

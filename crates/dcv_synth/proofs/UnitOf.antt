@@ -7,8 +7,8 @@ use Rattle.dcv_dfa.specs.Raw.{LeadsBelow}
 use Rattle.dcv_dfa.specs.NodeLines.{AreReducedRows, numbered, lines_of_rows}
 use Rattle.dcv_dfa.specs.Laws.{LinesHaveTheNumbersOfTheRows}
 use Rattle.dcv_dfa.proofs.Reduced.{has_lines}
-use Rattle.dcv_synth.specs.Control.{RowsValue, ControlValue, AreRowsBelow, IsControl, controller_by}
-use Rattle.dcv_synth.specs.Units.{lines_of, unit_of, controller_in}
+use Rattle.dcv_synth.specs.Control.{RowsValue, ControlValue, AreRowsBelow, IsControl, controller_by, lines_of, unit_of}
+use Rattle.dcv_synth.specs.Units.{controller_in}
 use Rattle.dcv_synth.specs.Laws.{HasUnit, UnitsKeepTheRules, UnitsAnswer, UnitsWin}
 use Rattle.dcv_synth.specs.Placing.{AreFitting}
 use Rattle.dcv_synth.proofs.UnitLines.{AreGoodUnitLines, good_rows}

@@ -22,9 +22,9 @@ use Rattle.dcv_c.specs.Meaning.{Numbers, zeros, assigned, executed, truth_number
 use Rattle.dcv_c.specs.Observer.{state_name, next_name, node_name, parameter_name}
 use Rattle.dcv_c.proofs.ObserverRuns.{assigned_there, assigned_elsewhere}
 use Rattle.dcv_c.proofs.ObserverAccepts.{number_at, place_of_parameter}
-use Rattle.dcv_synth.specs.Control.{ControlValue, RowsValue, IsControl, AreRowsBelow, value_in, step_of, controller_by}
+use Rattle.dcv_synth.specs.Control.{ControlValue, RowsValue, IsControl, AreRowsBelow, value_in, step_of, controller_by, lines_of, unit_of}
 use Rattle.dcv_synth.specs.Units.{ControlLines, output_name, output_node_name, input_name, choices, all_state_choices, last_statement}
-use Rattle.dcv_synth.specs.Units.{lines_of, unit_of_lines, unit_of, controller_in}
+use Rattle.dcv_synth.specs.Units.{unit_of_lines, controller_in}
 use Rattle.dcv_synth.proofs.UnitLines.{AreGoodUnitLines}
 use Rattle.dcv_synth.proofs.NodeNames.{node_differs, output_node_differs, no_local}
 use Rattle.dcv_synth.proofs.UnitRuns.{InputsStand, steps_count, Leads, all_choices_lead, StandsAt, rows_lead}

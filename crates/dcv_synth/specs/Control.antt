@@ -6,6 +6,8 @@
 --     AreRowsOf n states f rows           a row over n inputs for each state, with the numbers of this function
 --     step_of m control                   from a state, by an input, to the state and to the output whose numbers the state's rows have
 --     controller_by m control             the controller that begins in state 0 and goes on by these steps
+--     lines_of names control              its lines of nodes
+--     unit_of names control               and its unit
 --     IsControlOf n m automaton control   the start can be held, and at it and at each state of Win the rows have the least outputs that lead
 --                                         into Win, and the states to which these lead
 use Rattle.std.specs.Prelude.{◌≡◌, ◌↔◌, ℕ, ◌<◌, nat_eq, Bool, List, length, slice_get, slice_index_or, Some, Contains}
@@ -16,10 +18,13 @@ use Rattle.dcv_language.specs.Limits.{number_bound}
 use Rattle.dcv_arena.specs.Arena.{ArenaValue, IsArena, IsRef, value_of}
 use Rattle.dcv_arena.specs.declared.nodes.Ref.{Ref}
 use Rattle.dcv_arena.specs.declared.nodes.Ref.TheVariants.{Leaf}
+use Rattle.dcv_dfa.specs.NodeLines.{lines_of_rows}
 use Rattle.dcv_dfa.specs.Raw.{LeadsBelow}
+use Rattle.dcv_c.specs.Tree.{CUnit}
 use Rattle.dcv_synth.specs.Game.{Controller}
 use Rattle.dcv_synth.specs.Play.{Step, controller_of, answer_of, IsStartOr}
 use Rattle.dcv_synth.specs.Realisable.{IsRealisable}
+use Rattle.dcv_synth.specs.Units.{ControlLines, unit_of_lines}
 
 pub record RowsValue : Type 0 where
   pub arena : ArenaValue
@@ -64,6 +69,20 @@ step_of m control state input =
 
 abbrev pub controller_by : ℕ → ControlValue → Controller
 controller_by m control = controller_of 0 (step_of m control)
+
+-- ---- its unit
+
+abbrev pub lines_of : List (List ℕ) → ControlValue → ControlLines
+lines_of names control =
+    record {
+      names = names;
+      states = control.states;
+      next = lines_of_rows control.next.arena control.next.rows;
+      output = lines_of_rows control.output.arena control.output.rows;
+    }
+
+abbrev pub unit_of : List (List ℕ) → ControlValue → CUnit
+unit_of names control = unit_of_lines (lines_of names control)
 
 -- ---- the one of least outputs
 

@@ -8,8 +8,9 @@ use Rattle.dcv_dfa.specs.Auto.{table_of_states}
 use Rattle.dcv_synth.specs.Game.{Controller, Environment, Wins, Beats}
 use Rattle.dcv_synth.specs.Winning.{is_held, IsSafe, IsWin, is_beaten, IsRank}
 use Rattle.dcv_synth.specs.Realisable.{IsRealisable}
-use Rattle.dcv_synth.specs.Control.{RowsValue, ControlValue, IsControl, IsControlOf, value_in, controller_by}
-use Rattle.dcv_synth.specs.Units.{lines_of, unit_of, controller_in}
+use Rattle.dcv_synth.specs.Control.{RowsValue, ControlValue, IsControl, IsControlOf, value_in, controller_by, lines_of, unit_of}
+use Rattle.dcv_synth.specs.Least.{AreLeastLines}
+use Rattle.dcv_synth.specs.Units.{ControlLines, controller_in}
 use Rattle.dcv_word.specs.Behaviour.{Word, IsBehaviour}
 use Rattle.dcv_language.specs.Limits.{most_nodes}
 use Rattle.dcv_automaton_text.specs.Rules.{AreNames}
@@ -147,7 +148,12 @@ abbrev pub SameControlsHaveOneUnit : Type 0
 SameControlsHaveOneUnit = (names : List (List ℕ)) (one other : ControlValue) → IsControl one → IsControl other
     → one.next.arena.slots ≡ other.next.arena.slots → AreTheSameControl one.next.arena.slots one other → unit_of names one ≡ unit_of names other
 
--- so a requirement has one controller's unit
-abbrev pub OneUnitIsRight : Type 0
-OneUnitIsRight = (names : List (List ℕ)) (n m : ℕ) (automaton : Automaton ℕ) (one other : ControlValue) → IsControl one → IsControl other
-    → IsControlOf n m automaton one → IsControlOf n m automaton other → unit_of names one ≡ unit_of names other
+-- the lines of the controller of least outputs are so
+abbrev pub ControlsHaveLeastLines : Type 0
+ControlsHaveLeastLines = (names : List (List ℕ)) (n m : ℕ) (automaton : Automaton ℕ) (control : ControlValue) → HasUnit names control
+    → IsControlOf n m automaton control → AreLeastLines n m automaton names (lines_of names control)
+
+-- and there are no others, so a requirement has one controller's unit
+abbrev pub LeastLinesAreOne : Type 0
+LeastLinesAreOne = (names : List (List ℕ)) (n m : ℕ) (automaton : Automaton ℕ) (one other : ControlLines)
+    → AreLeastLines n m automaton names one → AreLeastLines n m automaton names other → one ≡ other

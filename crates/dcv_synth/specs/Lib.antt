@@ -9,6 +9,7 @@ pub mod Control
 pub mod Outcome
 pub mod SameSteps
 pub mod Units
+pub mod Least
 -- the statements that `src/laws.rt` proves
 pub mod Laws
 -- for proofs alone: what the search goes through

@@ -2,8 +2,7 @@
 -- step returns; `nJ` is the state to which node J of the next-state rows leads at the inputs of the step, and `oJ` the number that node J of the
 -- output rows has there.
 --     ControlLines               the names of the inputs, the states, and the lines of both kinds of rows
---     lines_of names control     those of a controller
---     unit_of names control      its unit
+--     unit_of_lines all          its unit
 --     choices name names lines   the statements of nodes, whose names are these by their numbers
 --     state_choices row          both statements of a state, by its number and its rows
 --     controller_in m unit       the controller that gives what a unit's steps return, as a letter over m outputs
@@ -15,27 +14,17 @@ use Rattle.dcv_word.specs.Letter.{letter_of}
 use Rattle.dcv_language.specs.declared.child.Child.{Child}
 use Rattle.dcv_language.specs.declared.child.Child.TheVariants.{State, Node}
 use Rattle.dcv_dfa.specs.declared.node_lines.NodeLine.{NodeLine}
-use Rattle.dcv_dfa.specs.NodeLines.{NodeLinesValue, lines_of_rows}
+use Rattle.dcv_dfa.specs.NodeLines.{NodeLinesValue}
 use Rattle.dcv_c.specs.Tree.{Item, Constant, Named, Holds, Equals, Plain, Chosen, Statement, Assign, When, Read, CUnit}
 use Rattle.dcv_c.specs.Meaning.{returned_after}
 use Rattle.dcv_c.specs.Observer.{state_name, next_name, node_name, parameter_name}
 use Rattle.dcv_synth.specs.Game.{Controller}
-use Rattle.dcv_synth.specs.Control.{ControlValue}
 
 pub record ControlLines : Type 0 where
   pub names : List (List ℕ)
   pub states : List ℕ
   pub next : NodeLinesValue
   pub output : NodeLinesValue
-
-abbrev pub lines_of : List (List ℕ) → ControlValue → ControlLines
-lines_of names control =
-    record {
-      names = names;
-      states = control.states;
-      next = lines_of_rows control.next.arena control.next.rows;
-      output = lines_of_rows control.output.arena control.output.rows;
-    }
 
 -- ---- names
 
@@ -119,9 +108,6 @@ unit_of_lines all =
       statements = statements_of all;
       returned = Read output_name;
     }
-
-abbrev pub unit_of : List (List ℕ) → ControlValue → CUnit
-unit_of names control = unit_of_lines (lines_of names control)
 
 -- ---- the controller that a unit is
 

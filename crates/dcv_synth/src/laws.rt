@@ -4,7 +4,8 @@ ghost use Rattle.dcv_synth.specs.Laws.{LeastOutputsWin, LeastMovesBeat, Controls
 ghost use Rattle.dcv_synth.specs.Laws.{OneControlIsRight, OneStrategyIsRight};
 ghost use Rattle.dcv_synth.specs.Laws.{ControlsOfLikeAutomata, StrategiesOfLikeAutomata, TablesGoOnAlike};
 ghost use Rattle.dcv_synth.specs.Laws.{StrategiesBeat, WinsOverSameBehaviours, BeatsOverSameBehaviours};
-ghost use Rattle.dcv_synth.specs.Laws.{UnitsKeepTheRules, UnitsAnswer, UnitsWin, SameControlsHaveOneUnit, OneUnitIsRight};
+ghost use Rattle.dcv_synth.specs.Laws.{UnitsKeepTheRules, UnitsAnswer, UnitsWin, SameControlsHaveOneUnit};
+ghost use Rattle.dcv_synth.specs.Laws.{ControlsHaveLeastLines, LeastLinesAreOne};
 
 use dcv_dfa::laws::{lines_are_of_rows, tables_have_the_states};
 
@@ -79,10 +80,15 @@ pub fn units_answer()
     lines_are_of_rows();
 }
 
-/// Controllers that do the same have one unit. So a requirement has one controller's unit.
+/// Controllers that do the same have one unit.
 pub fn units_are_one()
-    ensures same { SameControlsHaveOneUnit }
-    ensures right { OneUnitIsRight }
+    ensures { SameControlsHaveOneUnit }
 {
     lines_are_of_rows();
 }
+
+/// The controller of least outputs has the least lines, and there are no others. So a requirement has one controller's unit.
+pub fn least_lines_are_one()
+    ensures have { ControlsHaveLeastLines }
+    ensures one { LeastLinesAreOne }
+{}

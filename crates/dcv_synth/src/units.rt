@@ -10,8 +10,8 @@ ghost use Rattle.dcv_c.specs.Tree.{Read as ReadByName};
 ghost use Rattle.dcv_c.specs.Observer.{parameter_name};
 ghost use Rattle.dcv_c.specs.Seen.{seen_statement, seen_returned};
 ghost use Rattle.dcv_synth.specs.Game.{Wins};
-ghost use Rattle.dcv_synth.specs.Control.{controller_by};
-ghost use Rattle.dcv_synth.specs.Units.{step_name, output_name, local_names, statements_of, unit_of, controller_in};
+ghost use Rattle.dcv_synth.specs.Control.{controller_by, unit_of};
+ghost use Rattle.dcv_synth.specs.Units.{step_name, output_name, local_names, statements_of, controller_in};
 ghost use Rattle.dcv_synth.specs.Placing.{unit_names, AreFitting};
 
 use crate::control::Control;

@@ -16,4 +16,4 @@ returns c =
       no_unit_fault = c.texts_are_units_or_at_fault.ensures.none;
     })
     c.traces_have_one_verdict.ensures.one c.letters_have_one_text_of_answers.ensures.one c.one_summary.ensures
-    (one_synthesis_of c.one_canonical_table.ensures c.units_are_one.ensures.right c.answers_are_one.ensures.strategy c.one_side_is_right.ensures)
+    (one_synthesis_of c.one_canonical_table.ensures c.least_lines_are_one.ensures.one c.answers_are_one.ensures.strategy c.one_side_is_right.ensures)

@@ -20,6 +20,7 @@ returns c =
       beats_over = c.winners_of_same_behaviours.ensures.beats;
       units_keep = c.units_answer.ensures.rules;
       units_win = c.units_answer.ensures.wins;
+      lines_have = c.least_lines_are_one.ensures.have;
       read_back = c.texts_spell_units.ensures.back;
     } in
     let accept = c.machines_accept_steps.ensures in

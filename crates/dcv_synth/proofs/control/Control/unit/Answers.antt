@@ -10,8 +10,8 @@ use Rattle.dcv_c.specs.Rules.{IsWellNamed}
 use Rattle.dcv_c.specs.Form.{IsSpellable}
 use Rattle.dcv_c.specs.Seen.{seen_unit}
 use Rattle.dcv_synth.specs.Game.{Wins}
-use Rattle.dcv_synth.specs.Control.{RowsValue, ControlValue, controller_by}
-use Rattle.dcv_synth.specs.Units.{ControlLines, lines_of, unit_of_lines, unit_of, controller_in}
+use Rattle.dcv_synth.specs.Control.{RowsValue, ControlValue, controller_by, lines_of, unit_of}
+use Rattle.dcv_synth.specs.Units.{ControlLines, unit_of_lines, controller_in}
 use Rattle.dcv_synth.specs.Placing.{AreFitting}
 use Rattle.dcv_synth.specs.Laws.{HasUnit}
 use Rattle.dcv_synth.proofs.UnitMade.{IsMade, made_is_unit}
