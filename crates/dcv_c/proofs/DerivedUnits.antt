@@ -189,67 +189,48 @@ local_lines_spelt (name ∷ names) start is =
 -- ---- the step
 
 record HeadSpelt (start : ℕ) (of : CUnit) : Type 0 where
-  int : Token
   name : Token
-  opening : Token
   placed : List Token
-  closing : Token
-  brace : Token
   name_is : name.bytes ≡ of.step
   names_are : token_bytes placed ≡ of.parameters
   spelt : Spelt (Class word_int ∷ Class plain_name ∷ Class open_parenthesis ∷ Rule rules.parameters ∷ Class close_parenthesis ∷ Class open_brace ∷ [])
-      (tokens_at start (head_pieces of)) (AToken int ∷ AToken name ∷ AToken opening ∷ Tokens placed ∷ AToken closing ∷ AToken brace ∷ [])
+      (tokens_at start (head_pieces of)) (AToken name ∷ Tokens placed ∷ [])
 
 head_spelt : (start : ℕ) (of : CUnit) → IsSpellable of → HeadSpelt start of
 unfolding lexicon
 head_spelt start of is =
-    let int = at (start + 1) (codes "int") in
     let name = at (start + 1 + 3 + 1) of.step in
-    let opening = at (start + 1 + 3 + 1 + length of.step) (codes "(") in
     let from = start + 1 + 3 + 1 + length of.step + 1 in
     let p = parameters_spelt of.parameters from is.parameters in
-    let behind = from + length (bytes_of (parameters_pieces of.parameters)) in
-    let closing = at behind (codes ")") in
-    let brace = at (behind + 1 + 1) (codes "{") in
     record {
-      int = int;
       name = name;
-      opening = opening;
       placed = p.placed;
-      closing = closing;
-      brace = brace;
       name_is = refl;
       names_are = p.names_are;
       spelt =
-          by_token int refl (by_token name (name_class of.step is.step) (by_token opening refl (in_turn (parameters_pieces of.parameters) _ from p.spelt (by_token closing refl (by_token brace refl none)))));
+          by_token _ refl (by_token name (name_class of.step is.step) (by_token _ refl (in_turn (parameters_pieces of.parameters) _ from p.spelt (by_token _ refl (by_token _ refl none)))));
     }
 
 record EndSpelt (start : ℕ) (of : CUnit) : Type 0 where
-  return_word : Token
   placed : PlacedReturned
-  last : Token
   end : Token
   returned_is : returned_of placed ≡ of.returned
   spelt : Spelt (Class word_return ∷ Rule rules.returned ∷ Class semicolon ∷ Class close_brace ∷ []) (tokens_at start (end_pieces of))
-      (AToken return_word ∷ AReturned placed ∷ AToken last ∷ AToken end ∷ [])
+      (AReturned placed ∷ AToken end ∷ [])
 
 end_spelt : (start : ℕ) (of : CUnit) → IsSpellable of → EndSpelt start of
 unfolding lexicon
 end_spelt start of is =
-    let return_word = at (start + 1 + 1) (codes "return") in
     let from = start + 1 + 1 + 6 + 1 in
     let r = returned_spelt from of.returned is.returned in
     let behind = from + length (bytes_of (returned_pieces of.returned)) in
-    let last = at behind (codes ";") in
     let end = at (behind + 1 + 1) (codes "}") in
     record {
-      return_word = return_word;
       placed = r.placed;
-      last = last;
       end = end;
       returned_is = r.returned_is;
       spelt =
-          by_token return_word refl (in_turn (returned_pieces of.returned) _ from r.spelt (by_token last refl (by_token end refl none)));
+          by_token _ refl (in_turn (returned_pieces of.returned) _ from r.spelt (by_token _ refl (by_token end refl none)));
     }
 
 record StepSpelt (start : ℕ) (of : CUnit) : Type 0 where

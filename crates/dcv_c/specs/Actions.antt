@@ -1,12 +1,14 @@
--- What each rule of the grammar stands for, by what its body's symbols stand for: an equation for each body.
+-- What each rule of the grammar stands for, by what its body's symbols stand for: an equation for each body. Punctuation stands for nothing.
 --     Part                  what a symbol stands for
+--     has_part class        whether the tokens of a class stand for anything
 --     RULE_part parts       what a rule stands for, by the parts of its body
 --     scheme                what derivation trees stand for
 --     Spells text placed    the text stands for the placed unit
-use Rattle.std.specs.Prelude.{ℕ, List, [], ◌∷◌, Option, Some, None, slice_index_or}
+use Rattle.std.specs.Prelude.{ℕ, ◌==◌, Bool, ◌||◌, List, [], ◌∷◌, Option, Some, None, slice_index_or}
 use Rattle.dcv_lexer.specs.Cuts.{Token}
 use Rattle.dcv_observer.specs.Scheme.{Scheme, StandsFor}
-use Rattle.dcv_c.specs.Classes.{lexicon}
+use Rattle.dcv_observer.specs.Classes.{name as plain_name, number as plain_number}
+use Rattle.dcv_c.specs.Classes.{lexicon, close_brace}
 use Rattle.dcv_c.specs.Language.{language}
 use Rattle.dcv_c.specs.Placed.{PlacedUnit, PlacedAssignment, PlacedStatement, PlacedAssign, PlacedWhen, PlacedRight, PlacedPlain, PlacedChosen}
 use Rattle.dcv_c.specs.Placed.{PlacedChoice, PlacedReturned, PlacedFixed, PlacedRead, PlacedTested, PlacedTest, PlacedTests}
@@ -55,12 +57,12 @@ unit_part (AToken static ∷ Tokens statics ∷ AReset reset assignments reset_e
     })
 unit_part _ = Nothing
 
--- static = "static" "int" name ";"
-abbrev pub static_part : List Part → Part
-static_part (AToken static_word ∷ AToken int ∷ AToken name ∷ AToken semicolon ∷ []) = AToken name
-static_part _ = Nothing
+-- static = "static" "int" name ";", parameter = "int" name, local = "int" name ";", item = number | name
+abbrev pub token_part : List Part → Part
+token_part (AToken token ∷ []) = AToken token
+token_part _ = Nothing
 
--- more_statics = {static}, locals = {local}
+-- more_statics = {static}, locals = {local}, parameters = "void" | parameter more_parameters, more_parameters = {"," parameter}
 abbrev pub tokens_part : List Part → Part
 tokens_part [] = Tokens []
 tokens_part (AToken name ∷ Tokens names ∷ []) = Tokens (name ∷ names)
@@ -68,8 +70,7 @@ tokens_part _ = Nothing
 
 -- reset = "void" name "(" "void" ")" "{" assignments "}"
 abbrev pub reset_part : List Part → Part
-reset_part (AToken void ∷ AToken name ∷ AToken opening ∷ AToken none ∷ AToken closing ∷ AToken brace ∷ Assignments assignments ∷ AToken reset_end ∷ []) =
-    AReset name assignments reset_end
+reset_part (AToken name ∷ Assignments assignments ∷ AToken reset_end ∷ []) = AReset name assignments reset_end
 reset_part _ = Nothing
 
 -- assignments = {assignment}
@@ -80,37 +81,14 @@ assignments_part _ = Nothing
 
 -- assignment = name "=" number ";"
 abbrev pub assignment_part : List Part → Part
-assignment_part (AToken name ∷ AToken equals ∷ AToken number ∷ AToken semicolon ∷ []) = AnAssignment (record { name = name; number = number })
+assignment_part (AToken name ∷ AToken number ∷ []) = AnAssignment (record { name = name; number = number })
 assignment_part _ = Nothing
 
 -- step = "int" name "(" parameters ")" "{" locals statements "return" returned ";" "}"
 abbrev pub step_part : List Part → Part
-step_part (AToken int ∷ AToken name ∷ AToken opening ∷ Tokens parameters ∷ AToken closing ∷ AToken brace
-    ∷ Tokens locals ∷ Statements statements ∷ AToken return_word ∷ AReturned returned ∷ AToken semicolon ∷ AToken end ∷ []) =
+step_part (AToken name ∷ Tokens parameters ∷ Tokens locals ∷ Statements statements ∷ AReturned returned ∷ AToken end ∷ []) =
     AStep name parameters locals statements returned
 step_part _ = Nothing
-
--- parameters = "void" | parameter more_parameters
-abbrev pub parameters_part : List Part → Part
-parameters_part (AToken void ∷ []) = Tokens []
-parameters_part (AToken name ∷ Tokens names ∷ []) = Tokens (name ∷ names)
-parameters_part _ = Nothing
-
--- more_parameters = {"," parameter}
-abbrev pub more_parameters_part : List Part → Part
-more_parameters_part [] = Tokens []
-more_parameters_part (AToken comma ∷ AToken name ∷ Tokens names ∷ []) = Tokens (name ∷ names)
-more_parameters_part _ = Nothing
-
--- parameter = "int" name
-abbrev pub parameter_part : List Part → Part
-parameter_part (AToken int ∷ AToken name ∷ []) = AToken name
-parameter_part _ = Nothing
-
--- local = "int" name ";"
-abbrev pub local_part : List Part → Part
-local_part (AToken int ∷ AToken name ∷ AToken semicolon ∷ []) = AToken name
-local_part _ = Nothing
 
 -- statements = {statement}
 abbrev pub statements_part : List Part → Part
@@ -120,9 +98,8 @@ statements_part _ = Nothing
 
 -- statement = "if" "(" condition ")" name "=" item ";" | name "=" right ";"
 abbrev pub statement_part : List Part → Part
-statement_part (AToken if_word ∷ AToken opening ∷ Compared name number ∷ AToken closing ∷ AToken left ∷ AToken equals ∷ AToken item ∷ AToken semicolon ∷ []) =
-    AStatement (PlacedWhen name number left item)
-statement_part (AToken left ∷ AToken equals ∷ ARight right ∷ AToken semicolon ∷ []) = AStatement (PlacedAssign left right)
+statement_part (Compared name number ∷ AToken left ∷ AToken item ∷ []) = AStatement (PlacedWhen name number left item)
+statement_part (AToken left ∷ ARight right ∷ []) = AStatement (PlacedAssign left right)
 statement_part _ = Nothing
 
 -- right = number | name choice
@@ -135,9 +112,8 @@ right_part _ = Nothing
 -- choice = ["?" item ":" item | "==" number "?" item ":" item]
 abbrev pub choice_part : List Part → Part
 choice_part [] = Choice None
-choice_part (AToken question ∷ AToken item ∷ AToken colon ∷ AToken otherwise ∷ []) =
-    Choice (Some (record { number = None; item = item; otherwise = otherwise }))
-choice_part (AToken equals ∷ AToken number ∷ AToken question ∷ AToken item ∷ AToken colon ∷ AToken otherwise ∷ []) =
+choice_part (AToken item ∷ AToken otherwise ∷ []) = Choice (Some (record { number = None; item = item; otherwise = otherwise }))
+choice_part (AToken number ∷ AToken item ∷ AToken otherwise ∷ []) =
     Choice (Some (record { number = Some number; item = item; otherwise = otherwise }))
 choice_part _ = Nothing
 
@@ -149,13 +125,8 @@ condition_part _ = Nothing
 -- compared = ["==" number]
 abbrev pub compared_part : List Part → Part
 compared_part [] = Maybe None
-compared_part (AToken equals ∷ AToken number ∷ []) = Maybe (Some number)
+compared_part (AToken number ∷ []) = Maybe (Some number)
 compared_part _ = Nothing
-
--- item = number | name
-abbrev pub item_part : List Part → Part
-item_part (AToken item ∷ []) = AToken item
-item_part _ = Nothing
 
 -- returned = number | name tests
 abbrev pub returned_part : List Part → Part
@@ -167,34 +138,38 @@ returned_part _ = Nothing
 -- tests = ["==" number more_tests]
 abbrev pub tests_part : List Part → Part
 tests_part [] = Behind None
-tests_part (AToken equals ∷ AToken number ∷ Tests others ∷ []) = Behind (Some (record { number = number; others = others }))
+tests_part (AToken number ∷ Tests others ∷ []) = Behind (Some (record { number = number; others = others }))
 tests_part _ = Nothing
 
 -- more_tests = {"||" test}
 abbrev pub more_tests_part : List Part → Part
 more_tests_part [] = Tests []
-more_tests_part (AToken bar ∷ ATest test ∷ Tests tests ∷ []) = Tests (test ∷ tests)
+more_tests_part (ATest test ∷ Tests tests ∷ []) = Tests (test ∷ tests)
 more_tests_part _ = Nothing
 
 -- test = name "==" number
 abbrev pub test_part : List Part → Part
-test_part (AToken name ∷ AToken equals ∷ AToken number ∷ []) = ATest (record { name = name; number = number })
+test_part (AToken name ∷ AToken number ∷ []) = ATest (record { name = name; number = number })
 test_part _ = Nothing
 
 -- of each rule, in the order of their numbers
 abbrev pub actions : List (List Part → Part)
 actions =
-    unit_part ∷ static_part ∷ tokens_part ∷ reset_part ∷ assignments_part ∷ assignment_part ∷ step_part ∷ parameters_part
-    ∷ more_parameters_part ∷ parameter_part ∷ tokens_part ∷ local_part ∷ statements_part ∷ statement_part ∷ right_part ∷ choice_part
-    ∷ condition_part ∷ compared_part ∷ item_part ∷ returned_part ∷ tests_part ∷ more_tests_part ∷ test_part ∷ []
+    unit_part ∷ token_part ∷ tokens_part ∷ reset_part ∷ assignments_part ∷ assignment_part ∷ step_part ∷ tokens_part
+    ∷ tokens_part ∷ token_part ∷ tokens_part ∷ token_part ∷ statements_part ∷ statement_part ∷ right_part ∷ choice_part
+    ∷ condition_part ∷ compared_part ∷ token_part ∷ returned_part ∷ tests_part ∷ more_tests_part ∷ test_part ∷ []
 
 -- what a rule stands for
 abbrev pub action : ℕ → List Part → Part
 action rule parts = (slice_index_or actions rule (λ parts. Nothing)) parts
 
+-- names, numbers, and the brace at the end of a function
+abbrev pub has_part : ℕ → Bool
+has_part class = class == plain_name || class == plain_number || class == close_brace
+
 -- what derivation trees stand for
 abbrev pub scheme : Scheme Part
-scheme = record { lexicon = lexicon; grammar = language; of_token = AToken; action = action }
+scheme = record { lexicon = lexicon; grammar = language; has_part = has_part; of_token = AToken; action = action }
 
 -- the text stands for the unit
 abbrev pub Spells : List ℕ → PlacedUnit → Type 0

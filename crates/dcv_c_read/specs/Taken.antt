@@ -1,5 +1,5 @@
 -- Of which kind a part is.
-use Rattle.dcv_c.specs.Actions.{Part, AToken, Tokens, AnAssignment, Assignments, AReset, Statements, Maybe, Compared, AReturned, ATest, Tests, AStep}
+use Rattle.dcv_c.specs.Actions.{Part, AToken, Tokens, AnAssignment, Assignments, AReset, Statements, ARight, Maybe, Compared, AReturned, ATest, Tests, AStep}
 
 -- what owns nothing in code
 abbrev pub AreWords : Part → Type 0
@@ -33,6 +33,10 @@ AreTests _ = ⊥
 abbrev pub IsReset : Part → Type 0
 IsReset (AReset name assignments end) = Unit {0}
 IsReset _ = ⊥
+
+abbrev pub IsRight : Part → Type 0
+IsRight (ARight right) = Unit {0}
+IsRight _ = ⊥
 
 abbrev pub IsReturned : Part → Type 0
 IsReturned (AReturned returned) = Unit {0}

@@ -2,14 +2,15 @@
 ghost use Rattle.std.specs.Prelude.{◌≡◌, ◌∷◌, map, reverse};
 ghost use Rattle.dcv_observer.specs.Left.{seen};
 ghost use Rattle.dcv_translation.specs.Taken.{Begins, EndsOrBegins, Takes};
-ghost use Rattle.dcv_c.specs.Actions.{AToken, Tokens, Assignments, AReset, Statements, AReturned, Tests};
-ghost use Rattle.dcv_c_read.specs.Seen.{seen_assignment, seen_statement, seen_returned, seen_test};
+ghost use Rattle.dcv_c.specs.Actions.{AToken, Tokens, Assignments, AReset, Statements, ARight, AReturned, Tests};
+ghost use Rattle.dcv_c_read.specs.Seen.{seen_assignment, seen_statement, seen_right, seen_returned, seen_test};
 ghost use Rattle.dcv_c_read.specs.Symbols.{seen_part, seen_words, seen_step};
-ghost use Rattle.dcv_c_read.specs.Taken.{AreWords, IsToken, AreTokens, AreAssignments, AreStatements, AreTests, IsReset, IsReturned, IsStep};
+ghost use Rattle.dcv_c_read.specs.Taken.{AreWords, IsToken, AreTokens, AreAssignments, AreStatements, AreTests, IsReset, IsRight, IsReturned, IsStep};
 
 use crate::parts::{Part, Parts, Words};
 use crate::placed::{
-    PlacedAssignment, PlacedReset, PlacedReturned, PlacedStatement, PlacedStep, PlacedTest,
+    PlacedAssignment, PlacedReset, PlacedReturned, PlacedRight, PlacedStatement, PlacedStep,
+    PlacedTest,
 };
 use dcv_observer::Item;
 use dcv_translation::{copy_of_next, next_of};
@@ -81,6 +82,13 @@ pub(crate) fn reset<'a>(parts: &mut Parts<'a>) -> PlacedReset<'a>
     ensures { map seen_part parts.old ≡ AReset (seen result.name) (map seen_assignment result.assignments.items) (seen result.end) ∷ map seen_part parts.new }
 {
     next_of!(parts, Reset)
+}
+
+pub(crate) fn right<'a>(parts: &mut Parts<'a>) -> PlacedRight<'a>
+    requires { Begins IsRight (map seen_part parts.old) }
+    ensures { map seen_part parts.old ≡ ARight (seen_right result) ∷ map seen_part parts.new }
+{
+    next_of!(parts, Right)
 }
 
 pub(crate) fn returned<'a>(parts: &mut Parts<'a>) -> PlacedReturned<'a>

@@ -1,6 +1,7 @@
 // What the rules of statements and of results stand for, by the parts of one of their bodies.
-ghost use Rattle.std.specs.Prelude.{◌≡◌, map, IfOk};
-ghost use Rattle.dcv_c.specs.Actions.{statement_part, right_part, choice_part, returned_part};
+ghost use Rattle.std.specs.Prelude.{◌≡◌, map, Some, option_map, IfOk};
+ghost use Rattle.dcv_observer.specs.Left.{seen};
+ghost use Rattle.dcv_c.specs.Actions.{Choice, statement_part, right_part, choice_part, returned_part};
 ghost use Rattle.dcv_c_read.specs.Symbols.{seen_part, IsMeant};
 
 use crate::accessors;
@@ -8,6 +9,7 @@ use crate::parts::{Made, Part, Parts, Words};
 use crate::placed::{
     PlacedChoice, PlacedReturned, PlacedRight, PlacedStatement, PlacedTest, PlacedTests, PlacedWhen,
 };
+use dcv_observer::Item;
 use dcv_translation::with_first;
 use std::alloc::Global;
 
@@ -16,13 +18,9 @@ pub(crate) fn statement<'a>(alloc: Global, parts: &mut Parts<'a>) -> Made<'a>
     requires { IsMeant (statement_part (map seen_part parts.old)) }
     ensures { IfOk result (λ part. seen_part part ≡ statement_part (map seen_part parts.old)) }
 {
-    let first = accessors::token(parts);
-    accessors::token(parts);
-    match parts.next() {
-        Some(Part::Words(Words::Compared(name, number))) => {
-            accessors::token(parts);
+    match accessors::words(parts) {
+        Words::Compared(name, number) => {
             let left = accessors::token(parts);
-            accessors::token(parts);
             let item = accessors::token(parts);
             let placed = PlacedWhen {
                 name,
@@ -32,7 +30,10 @@ pub(crate) fn statement<'a>(alloc: Global, parts: &mut Parts<'a>) -> Made<'a>
             };
             Ok(Part::Statement(PlacedStatement::When(Box::new(alloc, placed)?)))
         }
-        Some(Part::Right(right)) => Ok(Part::Statement(PlacedStatement::Assign(first, right))),
+        Words::Token(left) => Ok(Part::Statement(PlacedStatement::Assign(
+            left,
+            accessors::right(parts),
+        ))),
         _ => unreachable!(),
     }
 }
@@ -56,24 +57,33 @@ pub(crate) fn choice<'a>(alloc: Global, parts: &mut Parts<'a>) -> Made<'a>
     requires { IsMeant (choice_part (map seen_part parts.old)) }
     ensures { IfOk result (λ part. seen_part part ≡ choice_part (map seen_part parts.old)) }
 {
-    if accessors::token_or_end(parts).is_none() {
+    let Some(first) = accessors::token_or_end(parts) else {
         return Ok(Part::Choice(None));
-    }
+    };
     let second = accessors::token(parts);
-    accessors::token(parts);
-    let third = accessors::token(parts);
-    if accessors::token_or_end(parts).is_none() {
-        let placed = PlacedChoice {
-            number: None,
-            item: second,
-            otherwise: third,
-        };
-        return Ok(Part::Choice(Some(Box::new(alloc, placed)?)));
+    match accessors::token_or_end(parts) {
+        None => chosen(alloc, None, first, second),
+        Some(third) => chosen(alloc, Some(first), second, third),
     }
+}
+
+// On the heap.
+fn chosen<'a>(
+    alloc: Global,
+    number: Option<Item<'a>>,
+    item: Item<'a>,
+    otherwise: Item<'a>,
+) -> Made<'a>
+    ensures { IfOk result (λ part. seen_part part ≡ Choice (Some (record {
+      number = option_map seen number.entry;
+      item = seen item.entry;
+      otherwise = seen otherwise.entry;
+    }))) }
+{
     let placed = PlacedChoice {
-        number: Some(second),
-        item: third,
-        otherwise: accessors::token(parts),
+        number,
+        item,
+        otherwise,
     };
     Ok(Part::Choice(Some(Box::new(alloc, placed)?)))
 }

@@ -34,12 +34,7 @@ pub(crate) fn reset<'a>(parts: &mut Parts<'a>) -> Part<'a>
     requires { IsMeant (reset_part (map seen_part parts.old)) }
     ensures { seen_part result ≡ reset_part (map seen_part parts.old) }
 {
-    accessors::token(parts);
     let name = accessors::token(parts);
-    accessors::token(parts);
-    accessors::token(parts);
-    accessors::token(parts);
-    accessors::token(parts);
     let mut assignments = accessors::assignments(parts);
     let end = accessors::token(parts);
     assignments.reverse();
@@ -65,15 +60,10 @@ fn plain_step<'a>(parts: &mut Parts<'a>) -> PlacedStep<'a>
     requires { IsMeant (step_part (map seen_part parts.old)) }
     ensures { seen_step result ≡ step_part (map seen_part parts.old) }
 {
-    accessors::token(parts);
     let name = accessors::token(parts);
-    accessors::token(parts);
     let mut parameters = accessors::tokens(parts);
-    accessors::token(parts);
-    accessors::token(parts);
     let mut locals = accessors::tokens(parts);
     let mut statements = accessors::statements(parts);
-    accessors::token(parts);
     let returned = accessors::returned(parts);
     parameters.reverse();
     locals.reverse();

@@ -1,8 +1,7 @@
 // What each rule of the grammar with a short body stands for, by the parts of one of its bodies.
 ghost use Rattle.std.specs.Prelude.{◌≡◌, map, IfOk};
-ghost use Rattle.dcv_c.specs.Actions.{static_part, tokens_part, assignments_part, assignment_part, parameters_part};
-ghost use Rattle.dcv_c.specs.Actions.{more_parameters_part, parameter_part, local_part, statements_part, condition_part};
-ghost use Rattle.dcv_c.specs.Actions.{compared_part, item_part, tests_part, more_tests_part, test_part};
+ghost use Rattle.dcv_c.specs.Actions.{token_part, tokens_part, assignments_part, assignment_part, statements_part, condition_part};
+ghost use Rattle.dcv_c.specs.Actions.{compared_part, tests_part, more_tests_part, test_part};
 ghost use Rattle.dcv_c_read.specs.Symbols.{seen_part, IsMeant};
 
 use crate::accessors;
@@ -11,17 +10,15 @@ use crate::placed::{PlacedAssignment, PlacedTest, PlacedTests};
 use dcv_translation::list_with_first;
 use std::alloc::Global;
 
-// static = "static" "int" name ";"
-pub(crate) fn static_name<'a>(parts: &mut Parts<'a>) -> Part<'a>
-    requires { IsMeant (static_part (map seen_part parts.old)) }
-    ensures { seen_part result ≡ static_part (map seen_part parts.old) }
+// static = "static" "int" name ";", parameter = "int" name, local = "int" name ";", item = number | name
+pub(crate) fn token<'a>(parts: &mut Parts<'a>) -> Part<'a>
+    requires { IsMeant (token_part (map seen_part parts.old)) }
+    ensures { seen_part result ≡ token_part (map seen_part parts.old) }
 {
-    accessors::token(parts);
-    accessors::token(parts);
     Part::Words(Words::Token(accessors::token(parts)))
 }
 
-// more_statics = {static}, locals = {local}
+// more_statics = {static}, locals = {local}, parameters = "void" | parameter more_parameters, more_parameters = {"," parameter}
 pub(crate) fn tokens<'a>(alloc: Global, parts: &mut Parts<'a>) -> Made<'a>
     requires { IsMeant (tokens_part (map seen_part parts.old)) }
     ensures { IfOk result (λ part. seen_part part ≡ tokens_part (map seen_part parts.old)) }
@@ -52,52 +49,8 @@ pub(crate) fn assignment<'a>(parts: &mut Parts<'a>) -> Part<'a>
     ensures { seen_part result ≡ assignment_part (map seen_part parts.old) }
 {
     let name = accessors::token(parts);
-    accessors::token(parts);
     let number = accessors::token(parts);
     Part::Words(Words::Assignment(PlacedAssignment { name, number }))
-}
-
-// parameters = "void" | parameter more_parameters
-pub(crate) fn parameters<'a>(alloc: Global, parts: &mut Parts<'a>) -> Made<'a>
-    requires { IsMeant (parameters_part (map seen_part parts.old)) }
-    ensures { IfOk result (λ part. seen_part part ≡ parameters_part (map seen_part parts.old)) }
-{
-    let name = accessors::token(parts);
-    match parts.next() {
-        None => Ok(Part::Tokens(Vec::new(alloc))),
-        Some(Part::Tokens(names)) => list_with_first!(Tokens, name, names),
-        _ => unreachable!(),
-    }
-}
-
-// more_parameters = {"," parameter}
-pub(crate) fn more_parameters<'a>(alloc: Global, parts: &mut Parts<'a>) -> Made<'a>
-    requires { IsMeant (more_parameters_part (map seen_part parts.old)) }
-    ensures { IfOk result (λ part. seen_part part ≡ more_parameters_part (map seen_part parts.old)) }
-{
-    if accessors::token_or_end(parts).is_none() {
-        return Ok(Part::Tokens(Vec::new(alloc)));
-    }
-    let name = accessors::token(parts);
-    list_with_first!(Tokens, name, accessors::tokens(parts))
-}
-
-// parameter = "int" name
-pub(crate) fn parameter<'a>(parts: &mut Parts<'a>) -> Part<'a>
-    requires { IsMeant (parameter_part (map seen_part parts.old)) }
-    ensures { seen_part result ≡ parameter_part (map seen_part parts.old) }
-{
-    accessors::token(parts);
-    Part::Words(Words::Token(accessors::token(parts)))
-}
-
-// local = "int" name ";"
-pub(crate) fn local<'a>(parts: &mut Parts<'a>) -> Part<'a>
-    requires { IsMeant (local_part (map seen_part parts.old)) }
-    ensures { seen_part result ≡ local_part (map seen_part parts.old) }
-{
-    accessors::token(parts);
-    Part::Words(Words::Token(accessors::token(parts)))
 }
 
 // statements = {statement}
@@ -131,18 +84,10 @@ pub(crate) fn compared<'a>(parts: &mut Parts<'a>) -> Part<'a>
     requires { IsMeant (compared_part (map seen_part parts.old)) }
     ensures { seen_part result ≡ compared_part (map seen_part parts.old) }
 {
-    if accessors::token_or_end(parts).is_none() {
-        return Part::Words(Words::Maybe(None));
+    match accessors::token_or_end(parts) {
+        None => Part::Words(Words::Maybe(None)),
+        Some(number) => Part::Words(Words::Maybe(Some(number))),
     }
-    Part::Words(Words::Maybe(Some(accessors::token(parts))))
-}
-
-// item = number | name
-pub(crate) fn item<'a>(parts: &mut Parts<'a>) -> Part<'a>
-    requires { IsMeant (item_part (map seen_part parts.old)) }
-    ensures { seen_part result ≡ item_part (map seen_part parts.old) }
-{
-    Part::Words(Words::Token(accessors::token(parts)))
 }
 
 // tests = ["==" number more_tests]
@@ -150,12 +95,13 @@ pub(crate) fn tests<'a>(parts: &mut Parts<'a>) -> Part<'a>
     requires { IsMeant (tests_part (map seen_part parts.old)) }
     ensures { seen_part result ≡ tests_part (map seen_part parts.old) }
 {
-    if accessors::token_or_end(parts).is_none() {
-        return Part::Behind(None);
+    match accessors::token_or_end(parts) {
+        None => Part::Behind(None),
+        Some(number) => {
+            let others = accessors::tests(parts);
+            Part::Behind(Some(PlacedTests { number, others }))
+        }
     }
-    let number = accessors::token(parts);
-    let others = accessors::tests(parts);
-    Part::Behind(Some(PlacedTests { number, others }))
 }
 
 // more_tests = {"||" test}
@@ -163,11 +109,9 @@ pub(crate) fn more_tests<'a>(alloc: Global, parts: &mut Parts<'a>) -> Made<'a>
     requires { IsMeant (more_tests_part (map seen_part parts.old)) }
     ensures { IfOk result (λ part. seen_part part ≡ more_tests_part (map seen_part parts.old)) }
 {
-    if accessors::token_or_end(parts).is_none() {
-        return Ok(Part::Tests(Vec::new(alloc)));
-    }
-    match accessors::words(parts) {
-        Words::Test(test) => list_with_first!(Tests, test, accessors::tests(parts)),
+    match accessors::words_or_end(parts) {
+        None => Ok(Part::Tests(Vec::new(alloc))),
+        Some(Words::Test(test)) => list_with_first!(Tests, test, accessors::tests(parts)),
         _ => unreachable!(),
     }
 }
@@ -178,7 +122,6 @@ pub(crate) fn test<'a>(parts: &mut Parts<'a>) -> Part<'a>
     ensures { seen_part result ≡ test_part (map seen_part parts.old) }
 {
     let name = accessors::token(parts);
-    accessors::token(parts);
     let number = accessors::token(parts);
     Part::Words(Words::Test(PlacedTest { name, number }))
 }

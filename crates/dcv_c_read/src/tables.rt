@@ -11,7 +11,7 @@ const CLOSE_PARENTHESIS: u8 = 4;
 
 const OPEN_BRACE: u8 = 5;
 
-const CLOSE_BRACE: u8 = 6;
+pub(crate) const CLOSE_BRACE: u8 = 6;
 
 const COMMA: u8 = 7;
 

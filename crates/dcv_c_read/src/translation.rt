@@ -7,7 +7,7 @@ use crate::parts::{Made, Part, Parts, Words};
 use crate::{choices, functions, rules, tables};
 use dcv_grammar::grammar::ContextFree;
 use dcv_lexer::Lexicon;
-use dcv_observer::Item;
+use dcv_observer::{Item, NAME, NUMBER};
 use dcv_translation::{Body, Translation};
 use std::alloc::Global;
 
@@ -20,7 +20,7 @@ pub(crate) struct UnitTranslation {
 
 impl<'a> Translation<'a> for UnitTranslation {
     ghost use Rattle.dcv_observer.specs.Scheme.{IsOfBody};
-    ghost use Rattle.dcv_c.specs.Actions.{Part as PlainPart, scheme};
+    ghost use Rattle.dcv_c.specs.Actions.{Part as PlainPart, has_part, scheme};
 
     type Part = Part<'a>;
 
@@ -38,6 +38,12 @@ impl<'a> Translation<'a> for UnitTranslation {
     #[tactic(auto, unfolding(dcv_c::specs::Language::language, dcv_grammar::specs::Predictive::IsPredictive))]
     fn grammar(&self) -> &'a ContextFree<'a> {
         &tables::GRAMMAR
+    }
+
+    fn has_part(&self, class: u8) -> bool
+        ensures { result ≡ has_part class }
+    {
+        class == NAME || class == NUMBER || class == tables::CLOSE_BRACE
     }
 
     fn token(&self, item: Item<'a>) -> Part<'a> {
@@ -59,28 +65,26 @@ fn act<'a>(alloc: Global, rule: u8, parts: &mut Parts<'a>) -> Made<'a>
 {
     match rule {
         tables::UNIT => functions::unit(alloc, parts),
-        tables::STATIC => Ok(rules::static_name(parts)),
-        tables::MORE_STATICS => rules::tokens(alloc, parts),
         tables::RESET => Ok(functions::reset(parts)),
         tables::ASSIGNMENTS => rules::assignments(alloc, parts),
         tables::ASSIGNMENT => Ok(rules::assignment(parts)),
         tables::STEP => functions::step(alloc, parts),
-        tables::PARAMETERS => rules::parameters(alloc, parts),
-        tables::MORE_PARAMETERS => rules::more_parameters(alloc, parts),
-        tables::PARAMETER => Ok(rules::parameter(parts)),
-        tables::LOCALS => rules::tokens(alloc, parts),
-        tables::LOCAL => Ok(rules::local(parts)),
         tables::STATEMENTS => rules::statements(alloc, parts),
         tables::STATEMENT => choices::statement(alloc, parts),
         tables::RIGHT => Ok(choices::right(parts)),
         tables::CHOICE => choices::choice(alloc, parts),
         tables::CONDITION => Ok(rules::condition(parts)),
         tables::COMPARED => Ok(rules::compared(parts)),
-        tables::ITEM => Ok(rules::item(parts)),
         tables::RETURNED => choices::returned(parts),
         tables::TESTS => Ok(rules::tests(parts)),
         tables::MORE_TESTS => rules::more_tests(alloc, parts),
         tables::TEST => Ok(rules::test(parts)),
+        tables::MORE_STATICS | tables::LOCALS => rules::tokens(alloc, parts),
+        tables::PARAMETERS => rules::tokens(alloc, parts),
+        tables::MORE_PARAMETERS => rules::tokens(alloc, parts),
+        tables::STATIC | tables::PARAMETER | tables::LOCAL | tables::ITEM => {
+            Ok(rules::token(parts))
+        }
         _ => unreachable!(),
     }
 }

@@ -134,11 +134,8 @@ condition_spelt start (Equals name n) is =
 pub record ArmSpelt (start : ℕ) (arm : Arm) : Type 0 where
   pub placed : PlacedArm
   pub arm_is : arm_of placed ≡ arm
-  pub if_word : Token
-  pub then_word : Token
-  pub else_word : Token
   pub spelt : Spelt (Class word_if ∷ Rule rules.condition ∷ Class word_then ∷ Rule rules.item ∷ Class word_else ∷ []) (tokens_at start (arm_pieces arm))
-      (AToken if_word ∷ Compared placed.name placed.number ∷ AToken then_word ∷ AToken placed.item ∷ AToken else_word ∷ [])
+      (Compared placed.name placed.number ∷ AToken placed.item ∷ [])
 
 arm_spelt : (start : ℕ) (arm : Arm) → IsArm arm → ArmSpelt start arm
 unfolding lexicon
@@ -150,12 +147,8 @@ arm_spelt start arm is =
     record {
       placed = record { name = c.name; number = c.number; item = item };
       arm_is = λ j. record { condition = c.condition_is j; item = i.item_is j };
-      if_word = at start (codes "if");
-      then_word = at (behind + 1) (codes "then");
-      else_word = at (behind + 1 + 4 + 1 + length (item_text arm.item) + 1) (codes "else");
       spelt =
-          by_token (at start (codes "if")) refl (in_turn (condition_pieces arm.condition) _ (start + 2 + 1) c.spelt (by_token (at (behind + 1) (codes "then")) refl (then i.spelt
-          (by_token (at (behind + 1 + 4 + 1 + length (item_text arm.item) + 1) (codes "else")) refl none))));
+          by_token _ refl (in_turn (condition_pieces arm.condition) _ (start + 2 + 1) c.spelt (by_token _ refl (then i.spelt (by_token _ refl none))));
     }
 
 -- ---- choices

@@ -156,20 +156,19 @@ more_inputs_spelt (name ∷ names) start is =
 
 -- the tokens after the inputs
 output_spelt : (start : ℕ)
-    → (output : Token) × Spelt (Class close_parenthesis ∷ Rule rules.output ∷ []) (tokens_at start output_pieces) (AToken (at start (codes ")")) ∷ AToken output ∷ [])
+    → (output : Token) × Spelt (Class close_parenthesis ∷ Rule rules.output ∷ []) (tokens_at start output_pieces) (AToken output ∷ [])
 unfolding language lexicon
 output_spelt start = (
   _,
-  by_token (at start (codes ")")) refl (by_rule rules.output (0, omega arith, refl)
+  by_token _ refl (by_rule rules.output (0, omega arith, refl)
       (by_token _ refl (by_token _ refl (by_token _ refl (by_token _ refl (by_token _ refl (by_token _ refl (by_token _ refl none)))))))),
 )
 
 record EndSpelt (start : ℕ) (of : Node) : Type 0 where
-  let_word : Token
   tel : Token
   placed : List PlacedEquation
   equations_are : map equation_of placed ≡ of.equations
-  spelt : Spelt (Class word_let ∷ Rule rules.equations ∷ Class word_tel ∷ []) (tokens_at start (end_pieces of)) (AToken let_word ∷ Equations placed ∷ AToken tel ∷ [])
+  spelt : Spelt (Class word_let ∷ Rule rules.equations ∷ Class word_tel ∷ []) (tokens_at start (end_pieces of)) (Equations placed ∷ AToken tel ∷ [])
 
 end_spelt : (start : ℕ) (of : Node) → IsSpellable of → EndSpelt start of
 unfolding language lexicon
@@ -178,12 +177,11 @@ end_spelt start of is =
     let e = equations_spelt of.equations from is.equations in
     let last = at (from + length (bytes_of (flat_map equation_pieces of.equations))) (codes "tel") in
     record {
-      let_word = at start (codes "let");
       tel = last;
       placed = e.placed;
       equations_are = e.equations_are;
       spelt =
-          by_token (at start (codes "let")) refl (in_turn (flat_map equation_pieces of.equations) _ from e.spelt (by_token last refl none));
+          by_token _ refl (in_turn (flat_map equation_pieces of.equations) _ from e.spelt (by_token last refl none));
     }
 
 module _ (of : Node) (is : IsSpellable of) where

@@ -1,12 +1,14 @@
--- What each rule of the grammar stands for, by what its body's symbols stand for: an equation for each body.
+-- What each rule of the grammar stands for, by what its body's symbols stand for: an equation for each body. Punctuation stands for nothing.
 --     Part                  what a symbol stands for
+--     has_part class        whether the tokens of a class stand for anything
 --     RULE_part parts       what a rule stands for, by the parts of its body
 --     scheme                what derivation trees stand for
 --     Spells text placed    the text stands for the placed node
-use Rattle.std.specs.Prelude.{ℕ, List, [], ◌∷◌, Option, Some, None, slice_index_or}
+use Rattle.std.specs.Prelude.{ℕ, ◌==◌, Bool, ◌||◌, List, [], ◌∷◌, Option, Some, None, slice_index_or}
 use Rattle.dcv_lexer.specs.Cuts.{Token}
 use Rattle.dcv_observer.specs.Scheme.{Scheme, StandsFor}
-use Rattle.dcv_lustre.specs.Classes.{lexicon}
+use Rattle.dcv_observer.specs.Classes.{name as plain_name, number as plain_number}
+use Rattle.dcv_lustre.specs.Classes.{lexicon, word_tel, word_true, word_false, word_bool, word_int, word_ok}
 use Rattle.dcv_lustre.specs.Language.{language}
 use Rattle.dcv_lustre.specs.Placed.{PlacedNode, PlacedLocal, PlacedEquation, PlacedRight, PlacedDelayed, PlacedChosen, PlacedTested, PlacedArm, PlacedTest}
 
@@ -32,34 +34,22 @@ pub data Part : Type 0 where
 
 -- node = "node" name "(" input more_inputs ")" output variables "let" equations "tel"
 abbrev pub node_part : List Part → Part
-node_part (AToken word ∷ AToken name ∷ AToken opening ∷ AToken input ∷ Tokens inputs ∷ AToken closing
-    ∷ AToken output ∷ Locals locals ∷ AToken let_word ∷ Equations equations ∷ AToken tel ∷ []) =
+node_part (AToken name ∷ AToken input ∷ Tokens inputs ∷ AToken output ∷ Locals locals ∷ Equations equations ∷ AToken tel ∷ []) =
     ANode (record { name = name; inputs = input ∷ inputs; output = output; locals = locals; equations = equations; tel = tel })
 node_part _ = Nothing
 
 -- more_inputs = {";" input}
 abbrev pub more_inputs_part : List Part → Part
 more_inputs_part [] = Tokens []
-more_inputs_part (AToken semicolon ∷ AToken input ∷ Tokens inputs ∷ []) = Tokens (input ∷ inputs)
+more_inputs_part (AToken input ∷ Tokens inputs ∷ []) = Tokens (input ∷ inputs)
 more_inputs_part _ = Nothing
 
--- input = name ":" "bool"
-abbrev pub input_part : List Part → Part
-input_part (AToken name ∷ AToken colon ∷ AToken bool ∷ []) = AToken name
-input_part _ = Nothing
+-- input = name ":" "bool", output = "returns" "(" "ok" ":" "bool" ")" ";"
+abbrev pub truth_part : List Part → Part
+truth_part (AToken name ∷ AToken bool ∷ []) = AToken name
+truth_part _ = Nothing
 
--- output = "returns" "(" "ok" ":" "bool" ")" ";"
-abbrev pub output_part : List Part → Part
-output_part (AToken returns ∷ AToken opening ∷ AToken ok ∷ AToken colon ∷ AToken bool ∷ AToken closing ∷ AToken semicolon ∷ []) = AToken ok
-output_part _ = Nothing
-
--- variables = ["var" local locals]
-abbrev pub variables_part : List Part → Part
-variables_part [] = Locals []
-variables_part (AToken var ∷ ALocal local ∷ Locals locals ∷ []) = Locals (local ∷ locals)
-variables_part _ = Nothing
-
--- locals = {local}
+-- variables = ["var" local locals], locals = {local}
 abbrev pub locals_part : List Part → Part
 locals_part [] = Locals []
 locals_part (ALocal local ∷ Locals locals ∷ []) = Locals (local ∷ locals)
@@ -67,7 +57,7 @@ locals_part _ = Nothing
 
 -- local = name ":" kind ";"
 abbrev pub local_part : List Part → Part
-local_part (AToken name ∷ AToken colon ∷ AToken kind ∷ AToken semicolon ∷ []) = ALocal (record { name = name; kind = kind })
+local_part (AToken name ∷ AToken kind ∷ []) = ALocal (record { name = name; kind = kind })
 local_part _ = Nothing
 
 -- a rule that is one token
@@ -83,7 +73,7 @@ equations_part _ = Nothing
 
 -- equation = name "=" right ";"
 abbrev pub equation_part : List Part → Part
-equation_part (AToken left ∷ AToken equals ∷ ARight right ∷ AToken semicolon ∷ []) = AnEquation (record { left = left; right = right })
+equation_part (AToken left ∷ ARight right ∷ []) = AnEquation (record { left = left; right = right })
 equation_part _ = Nothing
 
 abbrev pub arm : Token → Option Token → Token → PlacedArm
@@ -94,22 +84,20 @@ abbrev pub right_part : List Part → Part
 right_part (AToken name ∷ []) = ARight (PlacedChosen [] name)
 right_part (AToken literal ∷ Maybe None ∷ []) = ARight (PlacedChosen [] literal)
 right_part (AToken literal ∷ Maybe (Some source) ∷ []) = ARight (PlacedDelayed literal source)
-right_part (AToken if_word ∷ Compared name number ∷ AToken then_word ∷ AToken item ∷ AToken else_word ∷ Choice arms otherwise ∷ []) =
-    ARight (PlacedChosen (arm name number item ∷ arms) otherwise)
+right_part (Compared name number ∷ AToken item ∷ Choice arms otherwise ∷ []) = ARight (PlacedChosen (arm name number item ∷ arms) otherwise)
 right_part (ATest test ∷ Tests tests ∷ []) = ARight (PlacedTested (test ∷ tests))
 right_part _ = Nothing
 
--- delay = ["->" "pre" name]
-abbrev pub delay_part : List Part → Part
-delay_part [] = Maybe None
-delay_part (AToken arrow ∷ AToken pre ∷ AToken name ∷ []) = Maybe (Some name)
-delay_part _ = Nothing
+-- delay = ["->" "pre" name], compared = ["=" number]
+abbrev pub maybe_part : List Part → Part
+maybe_part [] = Maybe None
+maybe_part (AToken token ∷ []) = Maybe (Some token)
+maybe_part _ = Nothing
 
 -- choice = {"if" condition "then" item "else"} item
 abbrev pub choice_part : List Part → Part
 choice_part (AToken item ∷ []) = Choice [] item
-choice_part (AToken if_word ∷ Compared name number ∷ AToken then_word ∷ AToken item ∷ AToken else_word ∷ Choice arms otherwise ∷ []) =
-    Choice (arm name number item ∷ arms) otherwise
+choice_part (Compared name number ∷ AToken item ∷ Choice arms otherwise ∷ []) = Choice (arm name number item ∷ arms) otherwise
 choice_part _ = Nothing
 
 -- condition = name compared
@@ -117,37 +105,37 @@ abbrev pub condition_part : List Part → Part
 condition_part (AToken name ∷ Maybe number ∷ []) = Compared name number
 condition_part _ = Nothing
 
--- compared = ["=" number]
-abbrev pub compared_part : List Part → Part
-compared_part [] = Maybe None
-compared_part (AToken equals ∷ AToken number ∷ []) = Maybe (Some number)
-compared_part _ = Nothing
-
 -- test = "(" name "=" number ")"
 abbrev pub test_part : List Part → Part
-test_part (AToken opening ∷ AToken name ∷ AToken equals ∷ AToken number ∷ AToken closing ∷ []) = ATest (record { name = name; number = number })
+test_part (AToken name ∷ AToken number ∷ []) = ATest (record { name = name; number = number })
 test_part _ = Nothing
 
 -- more_tests = {"or" test}
 abbrev pub more_tests_part : List Part → Part
 more_tests_part [] = Tests []
-more_tests_part (AToken or_word ∷ ATest test ∷ Tests tests ∷ []) = Tests (test ∷ tests)
+more_tests_part (ATest test ∷ Tests tests ∷ []) = Tests (test ∷ tests)
 more_tests_part _ = Nothing
 
 -- of each rule, in the order of their numbers
 abbrev pub actions : List (List Part → Part)
 actions =
-    node_part ∷ more_inputs_part ∷ input_part ∷ variables_part ∷ locals_part ∷ local_part ∷ token_part ∷ equations_part
-    ∷ equation_part ∷ right_part ∷ delay_part ∷ choice_part ∷ condition_part ∷ compared_part ∷ test_part ∷ more_tests_part
-    ∷ token_part ∷ token_part ∷ token_part ∷ output_part ∷ []
+    node_part ∷ more_inputs_part ∷ truth_part ∷ locals_part ∷ locals_part ∷ local_part ∷ token_part ∷ equations_part
+    ∷ equation_part ∷ right_part ∷ maybe_part ∷ choice_part ∷ condition_part ∷ maybe_part ∷ test_part ∷ more_tests_part
+    ∷ token_part ∷ token_part ∷ token_part ∷ truth_part ∷ []
 
 -- what a rule stands for
 abbrev pub action : ℕ → List Part → Part
 action rule parts = (slice_index_or actions rule (λ parts. Nothing)) parts
 
+-- names, numbers, other constants, types, and the last word
+abbrev pub has_part : ℕ → Bool
+has_part class =
+    class == plain_name || class == plain_number || class == word_tel || class == word_true || class == word_false
+    || class == word_bool || class == word_int || class == word_ok
+
 -- what derivation trees stand for
 abbrev pub scheme : Scheme Part
-scheme = record { lexicon = lexicon; grammar = language; of_token = AToken; action = action }
+scheme = record { lexicon = lexicon; grammar = language; has_part = has_part; of_token = AToken; action = action }
 
 -- the text stands for the node
 abbrev pub Spells : List ℕ → PlacedNode → Type 0

@@ -33,10 +33,10 @@ abbrev pub AreTests : Part → Type 0
 AreTests (Tests tests) = Unit {0}
 AreTests _ = ⊥
 
--- ---- "then" item "else" choice
+-- ---- item, choice
 
 abbrev pub behind_condition : Token → Option Token → List Part → Part
-behind_condition name number (AToken then_word ∷ AToken item ∷ AToken else_word ∷ Choice arms otherwise ∷ []) = Choice (arm name number item ∷ arms) otherwise
+behind_condition name number (AToken item ∷ Choice arms otherwise ∷ []) = Choice (arm name number item ∷ arms) otherwise
 behind_condition name number _ = Nothing
 
 -- the right side that is such a choice

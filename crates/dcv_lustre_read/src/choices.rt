@@ -1,7 +1,7 @@
 // What the rules of right sides stand for, by the parts of one of their bodies.
-ghost use Rattle.std.specs.Prelude.{◌≡◌, ◌∷◌, [], map, reverse, option_map, IfOk};
+ghost use Rattle.std.specs.Prelude.{◌≡◌, ◌∷◌, map, reverse, option_map, IfOk};
 ghost use Rattle.dcv_observer.specs.Left.{seen};
-ghost use Rattle.dcv_lustre.specs.Actions.{AToken, ARight, Maybe, Choice, right_part, choice_part};
+ghost use Rattle.dcv_lustre.specs.Actions.{AToken, ARight, Choice, right_part, choice_part};
 ghost use Rattle.dcv_lustre_read.specs.Seen.{seen_arm, seen_right};
 ghost use Rattle.dcv_lustre_read.specs.Symbols.{seen_part, IsMeant};
 ghost use Rattle.dcv_lustre_read.specs.Taken.{behind_condition};
@@ -19,10 +19,9 @@ pub(crate) fn choice<'a>(alloc: Global, parts: &mut Parts<'a>) -> Made<'a>
     requires { IsMeant (choice_part (map seen_part parts.old)) }
     ensures { IfOk result (λ part. seen_part part ≡ choice_part (map seen_part parts.old)) }
 {
-    let item = accessors::token(parts);
-    match accessors::words_or_end(parts) {
-        None => Ok(Part::Choice(Vec::new(alloc), item)),
-        Some(Words::Compared(name, number)) => {
+    match accessors::words(parts) {
+        Words::Token(item) => Ok(Part::Choice(Vec::new(alloc), item)),
+        Words::Compared(name, number) => {
             let (arms, otherwise) = longer_choice(name, number, parts)?;
             Ok(Part::Choice(arms, otherwise))
         }
@@ -40,9 +39,7 @@ fn longer_choice<'a>(
     ensures { IfOk result (λ made. Choice (reverse (map seen_arm made.0.items)) (seen made.1)
         ≡ behind_condition (seen name.entry) (option_map seen number.entry) (map seen_part parts.old)) }
 {
-    accessors::token(parts);
     let item = accessors::token(parts);
-    accessors::token(parts);
     match parts.next() {
         Some(Part::Choice(arms, otherwise)) => {
             Ok((with_arm(PlacedArm { name, number, item }, arms)?, otherwise))
@@ -66,13 +63,18 @@ fn with_arm<'a>(
 }
 
 // right = literal delay | "if" condition "then" item "else" choice | test more_tests | name
-#[tactic(auto, using(dcv_translation::proofs::Reversed::forwards))]
+#[tactic(auto, using(crate::proofs::Bodies::right_in_steps, dcv_translation::proofs::Reversed::forwards))]
 pub(crate) fn right<'a>(alloc: Global, parts: &mut Parts<'a>) -> Made<'a>
     requires { IsMeant (right_part (map seen_part parts.old)) }
     ensures { IfOk result (λ part. seen_part part ≡ right_part (map seen_part parts.old)) }
 {
     match accessors::words(parts) {
-        Words::Token(first) => behind_token(alloc, first, parts),
+        Words::Token(first) => Ok(Part::Right(behind_token(alloc, first, parts))),
+        Words::Compared(name, number) => {
+            let (mut arms, otherwise) = longer_choice(name, number, parts)?;
+            arms.reverse();
+            Ok(Part::Right(PlacedRight::Chosen(arms, otherwise)))
+        }
         Words::Test(test) => {
             let mut tests = with_first(test, accessors::tests(parts))?;
             tests.reverse();
@@ -82,30 +84,15 @@ pub(crate) fn right<'a>(alloc: Global, parts: &mut Parts<'a>) -> Made<'a>
     }
 }
 
-// A right side that begins with a token.
-#[tactic(auto, using(crate::proofs::Bodies::right_in_steps, dcv_translation::proofs::Reversed::forwards))]
-fn behind_token<'a>(alloc: Global, first: Item<'a>, parts: &mut Parts<'a>) -> Made<'a>
+// A right side that begins with a token: literal delay | name
+fn behind_token<'a>(alloc: Global, first: Item<'a>, parts: &mut Parts<'a>) -> PlacedRight<'a>
     requires { IsMeant (right_part (AToken (seen first) ∷ map seen_part parts.old)) }
-    ensures { IfOk result (λ part. seen_part part ≡ right_part (AToken (seen first.entry) ∷ map seen_part parts.old)) }
+    ensures { ARight (seen_right result) ≡ right_part (AToken (seen first.entry) ∷ map seen_part parts.old) }
 {
     match accessors::words_or_end(parts) {
-        None => Ok(Part::Right(PlacedRight::Chosen(Vec::new(alloc), first))),
-        Some(Words::Maybe(source)) => Ok(Part::Right(of_literal(alloc, first, source))),
-        Some(Words::Compared(name, number)) => {
-            let (mut arms, otherwise) = longer_choice(name, number, parts)?;
-            arms.reverse();
-            Ok(Part::Right(PlacedRight::Chosen(arms, otherwise)))
-        }
+        None => PlacedRight::Chosen(Vec::new(alloc), first),
+        Some(Words::Maybe(None)) => PlacedRight::Chosen(Vec::new(alloc), first),
+        Some(Words::Maybe(Some(source))) => PlacedRight::Delayed(first, source),
         _ => unreachable!(),
-    }
-}
-
-// literal delay
-fn of_literal<'a>(alloc: Global, literal: Item<'a>, source: Option<Item<'a>>) -> PlacedRight<'a>
-    ensures { ARight (seen_right result) ≡ right_part (AToken (seen literal.entry) ∷ Maybe (option_map seen source.entry) ∷ []) }
-{
-    match source {
-        Some(source) => PlacedRight::Delayed(literal, source),
-        None => PlacedRight::Chosen(Vec::new(alloc), literal),
     }
 }

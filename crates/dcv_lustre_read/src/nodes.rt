@@ -15,14 +15,10 @@ pub(crate) fn node<'a>(alloc: Global, parts: &mut Parts<'a>) -> Made<'a>
     requires { IsMeant (node_part (map seen_part parts.old)) }
     ensures { IfOk result (λ part. seen_part part ≡ node_part (map seen_part parts.old)) }
 {
-    accessors::token(parts);
     let name = accessors::token(parts);
-    accessors::token(parts);
     let mut inputs = with_first(accessors::token(parts), accessors::tokens(parts))?;
-    accessors::token(parts);
     let output = accessors::token(parts);
     let mut locals = accessors::locals(parts);
-    accessors::token(parts);
     let mut equations = accessors::equations(parts);
     let tel = accessors::token(parts);
     inputs.reverse();

@@ -1,8 +1,7 @@
 // What each rule of the grammar stands for, by the parts of one of its bodies.
 ghost use Rattle.std.specs.Prelude.{◌≡◌, map, IfOk};
-ghost use Rattle.dcv_lustre.specs.Actions.{more_inputs_part, input_part, output_part, variables_part, locals_part, local_part};
-ghost use Rattle.dcv_lustre.specs.Actions.{token_part, equations_part, equation_part, delay_part, condition_part};
-ghost use Rattle.dcv_lustre.specs.Actions.{compared_part, test_part, more_tests_part};
+ghost use Rattle.dcv_lustre.specs.Actions.{more_inputs_part, truth_part, locals_part, local_part, token_part};
+ghost use Rattle.dcv_lustre.specs.Actions.{equations_part, equation_part, maybe_part, condition_part, test_part, more_tests_part};
 ghost use Rattle.dcv_lustre_read.specs.Symbols.{seen_part, IsMeant};
 
 use crate::accessors;
@@ -16,46 +15,21 @@ pub(crate) fn more_inputs<'a>(alloc: Global, parts: &mut Parts<'a>) -> Made<'a>
     requires { IsMeant (more_inputs_part (map seen_part parts.old)) }
     ensures { IfOk result (λ part. seen_part part ≡ more_inputs_part (map seen_part parts.old)) }
 {
-    if accessors::token_or_end(parts).is_none() {
-        return Ok(Part::Tokens(Vec::new(alloc)));
+    match accessors::token_or_end(parts) {
+        None => Ok(Part::Tokens(Vec::new(alloc))),
+        Some(input) => list_with_first!(Tokens, input, accessors::tokens(parts)),
     }
-    let input = accessors::token(parts);
-    list_with_first!(Tokens, input, accessors::tokens(parts))
 }
 
-// input = name ":" "bool"
-pub(crate) fn input<'a>(parts: &mut Parts<'a>) -> Part<'a>
-    requires { IsMeant (input_part (map seen_part parts.old)) }
-    ensures { seen_part result ≡ input_part (map seen_part parts.old) }
+// input = name ":" "bool", output = "returns" "(" "ok" ":" "bool" ")" ";"
+pub(crate) fn truth<'a>(parts: &mut Parts<'a>) -> Part<'a>
+    requires { IsMeant (truth_part (map seen_part parts.old)) }
+    ensures { seen_part result ≡ truth_part (map seen_part parts.old) }
 {
     Part::Words(Words::Token(accessors::token(parts)))
 }
 
-// output = "returns" "(" "ok" ":" "bool" ")" ";"
-pub(crate) fn output<'a>(parts: &mut Parts<'a>) -> Part<'a>
-    requires { IsMeant (output_part (map seen_part parts.old)) }
-    ensures { seen_part result ≡ output_part (map seen_part parts.old) }
-{
-    accessors::token(parts);
-    accessors::token(parts);
-    Part::Words(Words::Token(accessors::token(parts)))
-}
-
-// variables = ["var" local locals]
-pub(crate) fn variables<'a>(alloc: Global, parts: &mut Parts<'a>) -> Made<'a>
-    requires { IsMeant (variables_part (map seen_part parts.old)) }
-    ensures { IfOk result (λ part. seen_part part ≡ variables_part (map seen_part parts.old)) }
-{
-    if accessors::token_or_end(parts).is_none() {
-        return Ok(Part::Locals(Vec::new(alloc)));
-    }
-    match accessors::words(parts) {
-        Words::Local(local) => list_with_first!(Locals, local, accessors::locals(parts)),
-        _ => unreachable!(),
-    }
-}
-
-// locals = {local}
+// variables = ["var" local locals], locals = {local}
 pub(crate) fn locals<'a>(alloc: Global, parts: &mut Parts<'a>) -> Made<'a>
     requires { IsMeant (locals_part (map seen_part parts.old)) }
     ensures { IfOk result (λ part. seen_part part ≡ locals_part (map seen_part parts.old)) }
@@ -73,7 +47,6 @@ pub(crate) fn local<'a>(parts: &mut Parts<'a>) -> Part<'a>
     ensures { seen_part result ≡ local_part (map seen_part parts.old) }
 {
     let name = accessors::token(parts);
-    accessors::token(parts);
     let kind = accessors::token(parts);
     Part::Words(Words::Local(PlacedLocal { name, kind }))
 }
@@ -106,23 +79,21 @@ pub(crate) fn equation<'a>(parts: &mut Parts<'a>) -> Part<'a>
     ensures { seen_part result ≡ equation_part (map seen_part parts.old) }
 {
     let left = accessors::token(parts);
-    accessors::token(parts);
     match parts.next() {
         Some(Part::Right(right)) => Part::Equation(PlacedEquation { left, right }),
         _ => unreachable!(),
     }
 }
 
-// delay = ["->" "pre" name]
-pub(crate) fn delay<'a>(parts: &mut Parts<'a>) -> Part<'a>
-    requires { IsMeant (delay_part (map seen_part parts.old)) }
-    ensures { seen_part result ≡ delay_part (map seen_part parts.old) }
+// delay = ["->" "pre" name], compared = ["=" number]
+pub(crate) fn maybe<'a>(parts: &mut Parts<'a>) -> Part<'a>
+    requires { IsMeant (maybe_part (map seen_part parts.old)) }
+    ensures { seen_part result ≡ maybe_part (map seen_part parts.old) }
 {
-    if accessors::token_or_end(parts).is_none() {
-        return Part::Words(Words::Maybe(None));
+    match accessors::token_or_end(parts) {
+        None => Part::Words(Words::Maybe(None)),
+        Some(token) => Part::Words(Words::Maybe(Some(token))),
     }
-    accessors::token(parts);
-    Part::Words(Words::Maybe(Some(accessors::token(parts))))
 }
 
 // condition = name compared
@@ -137,25 +108,12 @@ pub(crate) fn condition<'a>(parts: &mut Parts<'a>) -> Part<'a>
     }
 }
 
-// compared = ["=" number]
-pub(crate) fn compared<'a>(parts: &mut Parts<'a>) -> Part<'a>
-    requires { IsMeant (compared_part (map seen_part parts.old)) }
-    ensures { seen_part result ≡ compared_part (map seen_part parts.old) }
-{
-    if accessors::token_or_end(parts).is_none() {
-        return Part::Words(Words::Maybe(None));
-    }
-    Part::Words(Words::Maybe(Some(accessors::token(parts))))
-}
-
 // test = "(" name "=" number ")"
 pub(crate) fn test<'a>(parts: &mut Parts<'a>) -> Part<'a>
     requires { IsMeant (test_part (map seen_part parts.old)) }
     ensures { seen_part result ≡ test_part (map seen_part parts.old) }
 {
-    accessors::token(parts);
     let name = accessors::token(parts);
-    accessors::token(parts);
     let number = accessors::token(parts);
     Part::Words(Words::Test(PlacedTest { name, number }))
 }
@@ -165,11 +123,9 @@ pub(crate) fn more_tests<'a>(alloc: Global, parts: &mut Parts<'a>) -> Made<'a>
     requires { IsMeant (more_tests_part (map seen_part parts.old)) }
     ensures { IfOk result (λ part. seen_part part ≡ more_tests_part (map seen_part parts.old)) }
 {
-    if accessors::token_or_end(parts).is_none() {
-        return Ok(Part::Tests(Vec::new(alloc)));
-    }
-    match accessors::words(parts) {
-        Words::Test(test) => list_with_first!(Tests, test, accessors::tests(parts)),
+    match accessors::words_or_end(parts) {
+        None => Ok(Part::Tests(Vec::new(alloc))),
+        Some(Words::Test(test)) => list_with_first!(Tests, test, accessors::tests(parts)),
         _ => unreachable!(),
     }
 }

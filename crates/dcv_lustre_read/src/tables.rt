@@ -25,7 +25,7 @@ const WORD_VAR: u8 = 11;
 
 const WORD_LET: u8 = 12;
 
-const WORD_TEL: u8 = 13;
+pub(crate) const WORD_TEL: u8 = 13;
 
 const WORD_IF: u8 = 14;
 
@@ -37,16 +37,16 @@ const WORD_PRE: u8 = 17;
 
 const WORD_OR: u8 = 18;
 
-const WORD_TRUE: u8 = 19;
+pub(crate) const WORD_TRUE: u8 = 19;
 
-const WORD_FALSE: u8 = 20;
+pub(crate) const WORD_FALSE: u8 = 20;
 
-const WORD_BOOL: u8 = 21;
+pub(crate) const WORD_BOOL: u8 = 21;
 
-const WORD_INT: u8 = 22;
+pub(crate) const WORD_INT: u8 = 22;
 
 // The name of the output.
-const WORD_OK: u8 = 23;
+pub(crate) const WORD_OK: u8 = 23;
 
 const SYMBOLS: [(&[u8], u8); 6] = [
     (b"->", ARROW),

@@ -7,7 +7,7 @@ use crate::parts::{Made, Part, Parts, Words};
 use crate::{choices, nodes, rules, tables};
 use dcv_grammar::grammar::ContextFree;
 use dcv_lexer::Lexicon;
-use dcv_observer::Item;
+use dcv_observer::{Item, NAME, NUMBER};
 use dcv_translation::{Body, Translation};
 use std::alloc::Global;
 
@@ -20,7 +20,7 @@ pub(crate) struct NodeTranslation {
 
 impl<'a> Translation<'a> for NodeTranslation {
     ghost use Rattle.dcv_observer.specs.Scheme.{IsOfBody};
-    ghost use Rattle.dcv_lustre.specs.Actions.{Part as PlainPart, scheme};
+    ghost use Rattle.dcv_lustre.specs.Actions.{Part as PlainPart, has_part, scheme};
 
     type Part = Part<'a>;
 
@@ -38,6 +38,19 @@ impl<'a> Translation<'a> for NodeTranslation {
     #[tactic(auto, unfolding(dcv_lustre::specs::Language::language, dcv_grammar::specs::Predictive::IsPredictive))]
     fn grammar(&self) -> &'a ContextFree<'a> {
         &tables::GRAMMAR
+    }
+
+    fn has_part(&self, class: u8) -> bool
+        ensures { result ≡ has_part class }
+    {
+        class == NAME
+            || class == NUMBER
+            || class == tables::WORD_TEL
+            || class == tables::WORD_TRUE
+            || class == tables::WORD_FALSE
+            || class == tables::WORD_BOOL
+            || class == tables::WORD_INT
+            || class == tables::WORD_OK
     }
 
     fn token(&self, item: Item<'a>) -> Part<'a> {
@@ -60,20 +73,17 @@ fn act<'a>(alloc: Global, rule: u8, parts: &mut Parts<'a>) -> Made<'a>
     match rule {
         tables::NODE => nodes::node(alloc, parts),
         tables::MORE_INPUTS => rules::more_inputs(alloc, parts),
-        tables::INPUT => Ok(rules::input(parts)),
-        tables::VARIABLES => rules::variables(alloc, parts),
-        tables::LOCALS => rules::locals(alloc, parts),
+        tables::INPUT | tables::OUTPUT => Ok(rules::truth(parts)),
+        tables::VARIABLES | tables::LOCALS => rules::locals(alloc, parts),
         tables::LOCAL => Ok(rules::local(parts)),
         tables::EQUATIONS => rules::equations(alloc, parts),
         tables::EQUATION => Ok(rules::equation(parts)),
         tables::RIGHT => choices::right(alloc, parts),
-        tables::DELAY => Ok(rules::delay(parts)),
+        tables::DELAY | tables::COMPARED => Ok(rules::maybe(parts)),
         tables::CHOICE => choices::choice(alloc, parts),
         tables::CONDITION => Ok(rules::condition(parts)),
-        tables::COMPARED => Ok(rules::compared(parts)),
         tables::TEST => Ok(rules::test(parts)),
         tables::MORE_TESTS => rules::more_tests(alloc, parts),
-        tables::OUTPUT => Ok(rules::output(parts)),
         tables::KIND | tables::ITEM | tables::LITERAL | tables::NAME_RULE => Ok(rules::token(
             parts,
         )),

@@ -12,13 +12,6 @@ pub was_new : (b : Bool) (names more : Names) (name : List ℕ) → b ≡ true �
 was_new b names more name new is then =
     (not-true (is_among names name) (sym is ∙ new), then ∙ ap (λ (d : Bool). cond d (names ++ name ∷ []) names) new)
 
-pub was_there : (b : Bool) (names : Names) (name : List ℕ) → b ≡ false → b ≡ not (is_among names name) → is_among names name ≡ true
-was_there b names name old is = among (is_among names name) (sym is ∙ old)
-  where
-    among : (there : Bool) → not there ≡ false → there ≡ true
-    among true h = refl
-    among false h = absurd (false≢true (sym h))
-
 place_within : (p : List ℕ → Bool) (xs : Names) → list_any p xs ≡ true → position_or_len p xs < length xs
 place_within p [] some = absurd (false≢true some)
 place_within p (x ∷ xs) some =

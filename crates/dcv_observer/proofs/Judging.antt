@@ -1,6 +1,5 @@
 -- What is left to judge after a word that keeps its rule, and the fault at one that does not.
 use Rattle.std.proofs.Common.{◌≡◌, ℕ, Bool, true, false, List, ◌∷◌, Option, Some, Result, Ok, Err, refl, sym, ap, subst, ◌∙◌}
-use Rattle.std.specs.Prelude.{IfErr}
 use Rattle.std.specs.Result.{IsErrAnd}
 use Rattle.dcv_lexer.specs.Cuts.{Token}
 use Rattle.dcv_observer.specs.declared.fault.ObsFault.{ObsFault}
@@ -36,11 +35,3 @@ leads_on whole Next (Err e) fault is told = subst (IsFaultOf whole) (sym is) tol
 
 pub fault_is : {fault : ObsFault} {whole : Option ℕ} {at : ℕ} → fault ≡ Fault at → whole ≡ Some at → IsFaultOf whole fault
 fault_is {whole = whole} is told = subst (IsFaultOf whole) (sym is) told
-
--- where it is told
-pub told_fault : {A : Type 0} (whole : Option ℕ) (result : Result A ObsFault) (fault : ObsFault) → IsErrAnd result (λ e. e ≡ fault) → IsFaultOf whole fault
-    → IfErr result (λ fault. (fault ≡ Memory → ⊥) → (at : ℕ) × (fault ≡ Fault at) × (whole ≡ Some at))
-told_fault whole (Ok x) fault is told = absurd is
-told_fault whole (Err e) (Syntax place) is told = absurd told
-told_fault whole (Err e) (Fault place) is told = λ other. (place, is, told)
-told_fault whole (Err e) Memory is told = λ other. absurd (other is)

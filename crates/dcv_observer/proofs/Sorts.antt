@@ -3,7 +3,7 @@
 --     Sorts scheme               the sorts, and the parts of each
 --     Values sorts symbols       values for symbols, of the sorts of their rules
 --     Agree sorts rules ..       each body of each rule stands for a part of the rule's sort
-use Rattle.std.proofs.Common.{◌≡◌, ℕ, zero, suc, List, [], ◌∷◌, Some, None, refl, sym, ap, ◌∙◌, subst}
+use Rattle.std.proofs.Common.{◌≡◌, ℕ, zero, suc, List, [], ◌∷◌, ◌++◌, Some, None, refl, sym, ap, ◌∙◌, subst}
 use Rattle.std.specs.Prelude.{⊤, Contains, slice_get, slice_index_or}
 use Rattle.std.specs.List.{AllByRecursion}
 use Rattle.std.proofs.lemmas.List.Elements.{All-from_recursion}
@@ -14,7 +14,7 @@ use Rattle.dcv_grammar.specs.Trees.{Nodes, done, leaf, node, AreTrees}
 use Rattle.dcv_grammar.proofs.Derivations.{rule_with}
 use Rattle.dcv_lexer.specs.Cuts.{Token}
 use Rattle.dcv_observer.specs.Items.{token_class}
-use Rattle.dcv_observer.specs.Scheme.{Scheme, parts_of}
+use Rattle.dcv_observer.specs.Scheme.{Scheme, parts_of_token, parts_of}
 
 pub record Sorts {Part : Type 0} (scheme : Scheme Part) : Type 1 where
   pub Sort : Type 0
@@ -39,7 +39,7 @@ module _ {Part : Type 0} {scheme : Scheme Part} (sorts : Sorts scheme) where
 
   abbrev pub parts_from : (symbols : List Symbol) → Values symbols → List Part
   parts_from [] values = []
-  parts_from (Class class ∷ symbols) values = scheme.of_token values.0.0 ∷ parts_from symbols values.1
+  parts_from (Class class ∷ symbols) values = parts_of_token scheme class values.0.0 ++ parts_from symbols values.1
   parts_from (Rule number ∷ symbols) values = sorts.part_of (sort_of number) values.0 ∷ parts_from symbols values.1
 
   abbrev pub Agree : List Production → List (List Part → Part) → List sorts.Sort → Type 0
@@ -83,7 +83,7 @@ module _ {Part : Type 0} {scheme : Scheme Part} (sorts : Sorts scheme) where
     trees_stand (Class class ∷ symbols) done h = absurd h
     trees_stand (Class class ∷ symbols) (leaf token next) h =
         let (values, is) = trees_stand symbols next h.1 in
-        (((token, h.0), values), ap (λ (parts : List Part). scheme.of_token token ∷ parts) is)
+        (((token, h.0), values), λ i. parts_of_token scheme (h.0 i) token ++ is i)
     trees_stand (Class class ∷ symbols) (node rule inner next) h = absurd h
     trees_stand (Rule number ∷ symbols) done h = absurd h
     trees_stand (Rule number ∷ symbols) (leaf token next) h = absurd h

@@ -9,7 +9,7 @@ use Rattle.dcv_lexer.specs.Lexicon.{is_orderly}
 use Rattle.dcv_lexer.specs.Cuts.{Token}
 use Rattle.dcv_observer.specs.Items.{HasItems, token_class}
 use Rattle.dcv_observer.specs.Pieces.{Piece, bytes_of, tokens_at, IsLaidOut}
-use Rattle.dcv_observer.specs.Scheme.{Scheme, parts_of, StandsFor}
+use Rattle.dcv_observer.specs.Scheme.{Scheme, parts_of_token, parts_of, StandsFor}
 use Rattle.dcv_observer.proofs.LaidOut.{laid_out}
 use Rattle.dcv_observer.proofs.PieceLists.{tokens_append}
 
@@ -44,7 +44,9 @@ join_leaves (node rule inner next) more = ap (λ tokens. leaves inner ++ tokens)
 join_parts : {Part : Type 0} (scheme : Scheme Part) (nodes more : Nodes Token)
     → parts_of scheme (join nodes more) ≡ parts_of scheme nodes ++ parts_of scheme more
 join_parts scheme done more = refl
-join_parts scheme (leaf token next) more = ap (λ parts. scheme.of_token token ∷ parts) (join_parts scheme next more)
+join_parts scheme (leaf token next) more =
+    let own = parts_of_token scheme (token_class scheme.lexicon token) token in
+    ap (λ parts. own ++ parts) (join_parts scheme next more) ∙ sym (append_assoc own (parts_of scheme next) (parts_of scheme more))
 join_parts scheme (node rule inner next) more = ap (λ parts. scheme.action rule (parts_of scheme inner) ∷ parts) (join_parts scheme next more)
 
 -- ---- putting together
@@ -54,13 +56,13 @@ module _ {Part : Type 0} {scheme : Scheme Part} where
   none = record { nodes = done; are = tt; whole = refl; is = refl }
 
   pub by_token : {class : ℕ} {symbols : List Symbol} {tokens : List Token} {parts : List Part} (token : Token) → token_class scheme.lexicon token ≡ class
-      → Spelt scheme symbols tokens parts → Spelt scheme (Class class ∷ symbols) (token ∷ tokens) (scheme.of_token token ∷ parts)
-  by_token token e s =
+      → Spelt scheme symbols tokens parts → Spelt scheme (Class class ∷ symbols) (token ∷ tokens) (parts_of_token scheme class token ++ parts)
+  by_token {class} token e s =
       record {
         nodes = leaf token s.nodes;
         are = (e, s.are);
         whole = ap (λ tokens. token ∷ tokens) s.whole;
-        is = ap (λ parts. scheme.of_token token ∷ parts) s.is;
+        is = λ i. parts_of_token scheme (e i) token ++ s.is i;
       }
 
   -- a rule by one of its bodies

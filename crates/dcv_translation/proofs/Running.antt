@@ -1,5 +1,5 @@
 -- The steps of a translation, over plain lists of steps and parts.
-use Rattle.std.proofs.Common.{◌≡◌, ℕ, zero, suc, Bool, true, false, cond, ◌+◌, ◌*◌, ◌<◌, List, [], ◌∷◌, ◌++◌, length, map, take, drop, reverse, Option, Some, None, refl, sym, ap, ◌∙◌, subst, arith}
+use Rattle.std.proofs.Common.{◌≡◌, ℕ, zero, suc, Bool, true, false, cond, if◌then◌else◌, ◌+◌, ◌*◌, ◌<◌, List, [], ◌∷◌, ◌++◌, length, map, take, drop, reverse, Option, Some, None, refl, sym, ap, ◌∙◌, subst, arith}
 use Rattle.std.proofs.Common.{append_assoc, append-nil, length-append}
 use Rattle.std.specs.Prelude.{◌==◌, slice_get, is_some, Contains, option_map, IfSome}
 use Rattle.std.specs.Option.{option_to_list}
@@ -21,7 +21,7 @@ use Rattle.dcv_lexer.specs.Cuts.{Token}
 use Rattle.dcv_observer.specs.Items.{token_class}
 use Rattle.dcv_translation.specs.declared.machine.Step.{Step}
 use Rattle.dcv_translation.specs.declared.machine.Step.TheVariants.{Class, Rule, Close}
-use Rattle.dcv_observer.specs.Scheme.{Scheme, parts_of}
+use Rattle.dcv_observer.specs.Scheme.{Scheme, parts_of_token, parts_of}
 use Rattle.dcv_translation.specs.UnderWay.{step_of, symbols_of, Runs, IsUnderWay, Fits, with_class, Advances, Takes}
 
 -- ---- the body that is picked
@@ -81,6 +81,11 @@ module _ {Part : Type 0} (scheme : Scheme Part) where
   abbrev class_of : Token → ℕ
   class_of = token_class scheme.lexicon
 
+  -- what a token of a class stands for, where a test tells whether it stands for anything
+  pub parts_where : (class : ℕ) (token : Token) (test truth : Bool) → test ≡ scheme.has_part class → test ≡ truth
+      → parts_of_token scheme class token ≡ (if truth then scheme.of_token token ∷ [] else [])
+  parts_where class token test truth tells is = ap (λ b. if b then scheme.of_token token ∷ [] else []) (sym tells ∙ is)
+
   -- ---- trees
 
   -- the trees with which steps run are those of the symbols to come
@@ -106,10 +111,12 @@ module _ {Part : Type 0} (scheme : Scheme Part) where
   runs_through [] (node rule inner trees) are steps next parts all runs = absurd are
   runs_through (ClassSymbol class ∷ symbols) done are steps next parts all runs = absurd are
   runs_through (ClassSymbol class ∷ symbols) (leaf token trees) are steps next parts all runs =
-      let part = scheme.of_token token in (
+      let behind = parts_of scheme trees in
+      let own = parts_of_token scheme class token in (
         are.0,
-        runs_through symbols trees are.1 steps next (parts ++ part ∷ []) all
-            (subst (λ (l : List Part). Runs scheme steps next l all) (sym (append_assoc parts (part ∷ []) (parts_of scheme trees))) runs),
+        runs_through symbols trees are.1 steps next (parts ++ own) all
+            (subst (λ (l : List Part). Runs scheme steps next l all)
+            ((λ i. parts ++ (parts_of_token scheme (are.0 i) token ++ behind)) ∙ sym (append_assoc parts own behind)) runs),
       )
   runs_through (ClassSymbol class ∷ symbols) (node rule inner trees) are steps next parts all runs = absurd are
   runs_through (RuleSymbol number ∷ symbols) done are steps next parts all runs = absurd are
@@ -128,9 +135,11 @@ module _ {Part : Type 0} (scheme : Scheme Part) where
       → Fits scheme (map step_of symbols ++ steps) parts
   fits_through [] steps parts behind = subst (λ (l : List Part). Fits scheme steps l) (append-nil parts) (behind done tt)
   fits_through (ClassSymbol class ∷ symbols) steps parts behind = λ token is.
-      let part = scheme.of_token token in
-      fits_through symbols steps (parts ++ part ∷ []) (λ trees are.
-      subst (λ (l : List Part). Fits scheme steps l) (sym (append_assoc parts (part ∷ []) (parts_of scheme trees))) (behind (leaf token trees) (is, are)))
+      let own = parts_of_token scheme class token in
+      fits_through symbols steps (parts ++ own) (λ trees are.
+      subst (λ (l : List Part). Fits scheme steps l)
+      ((λ i. parts ++ (parts_of_token scheme (is i) token ++ parts_of scheme trees)) ∙ sym (append_assoc parts own (parts_of scheme trees)))
+      (behind (leaf token trees) (is, are)))
   fits_through (RuleSymbol number ∷ symbols) steps parts behind = λ body inner is are_inner.
       let part = scheme.action number (parts_of scheme inner) in
       fits_through symbols steps (parts ++ part ∷ []) (λ trees are.
@@ -233,11 +242,11 @@ module _ {Part : Type 0} (scheme : Scheme Part) where
 
   -- the token is there
   pub taken : (class : ℕ) (steps : List Step) (parts all : List Part) (token : Token) (left : List Token)
-      → IsUnderWay scheme (Class class ∷ steps) parts (token ∷ left) all → IsUnderWay scheme steps (parts ++ scheme.of_token token ∷ []) left all
+      → IsUnderWay scheme (Class class ∷ steps) parts (token ∷ left) all → IsUnderWay scheme steps (parts ++ parts_of_token scheme class token) left all
   taken class steps parts all token left under = by under.trees under.runs under.leaves_left
     where
       by : (trees : Nodes Token) → Runs scheme (Class class ∷ steps) trees parts all → leaves trees ≡ token ∷ left
-          → IsUnderWay scheme steps (parts ++ scheme.of_token token ∷ []) left all
+          → IsUnderWay scheme steps (parts ++ parts_of_token scheme class token) left all
       by done runs is = absurd runs
       by (leaf other next) runs is =
           let same : other ≡ token = cc in
@@ -245,20 +254,12 @@ module _ {Part : Type 0} (scheme : Scheme Part) where
           record {
             reached = past_class under.reached;
             trees = next;
-            runs = subst (λ (t : Token). Runs scheme steps next (parts ++ scheme.of_token t ∷ []) all) same runs.1;
+            runs = subst (λ (t : Token). Runs scheme steps next (parts ++ parts_of_token scheme class t) all) same runs.1;
             leaves_left = same_left;
           }
       by (node rule inner next) runs is = absurd runs
 
-  -- no steps are left where no token is, and only there
-  pub some_step : (parts all : List Part) (token : Token) (left : List Token) → IsUnderWay scheme [] parts (token ∷ left) all → ⊥
-  some_step parts all token left under = by under.trees under.runs under.leaves_left
-    where
-      by : (trees : Nodes Token) → Runs scheme [] trees parts all → leaves trees ≡ token ∷ left → ⊥
-      by done runs is = cc
-      by (leaf other next) runs is = absurd runs
-      by (node rule inner next) runs is = absurd runs
-
+  -- no class is left where no token is
   pub no_class : (class : ℕ) (steps : List Step) (parts all : List Part) → IsUnderWay scheme (Class class ∷ steps) parts [] all → ⊥
   no_class class steps parts all under = by under.trees under.runs under.leaves_left
     where
@@ -275,13 +276,7 @@ module _ {Part : Type 0} (scheme : Scheme Part) where
       by (leaf other next) runs = absurd runs
       by (node rule inner next) runs = absurd runs
 
-  -- the machine stops at a token
-  pub token_taken : (wanted : Option ℕ) (steps : List Step) (parts all : List Part) (token : Token) (left : List Token)
-      → IsUnderWay scheme (with_class wanted steps) parts (token ∷ left) all → IsUnderWay scheme steps (parts ++ scheme.of_token token ∷ []) left all
-  token_taken None steps parts all token left under = absurd (some_step parts all token left under)
-  token_taken (Some class) steps parts all token left under = taken class steps parts all token left under
-
-  -- and at the end
+  -- the machine stops at the end
   pub end_reached : (wanted : Option ℕ) (steps : List Step) (parts all : List Part) → IsUnderWay scheme (with_class wanted steps) parts [] all → parts ≡ all
   end_reached None steps parts all under = all_made parts all [] under
   end_reached (Some class) steps parts all under = absurd (no_class class steps parts all under)
@@ -306,10 +301,6 @@ steps_pushed old step symbols =
 -- the step that was popped was the next
 pub next_is : (steps before : List Step) (popped step : Step) → steps ≡ before ++ popped ∷ [] → popped ≡ step → reverse steps ≡ step ∷ reverse before
 next_is steps before popped step e is = ap reverse e ∙ (reverse-append before (popped ∷ []) ∙ ap (λ x. x ∷ reverse before) is)
-
-pub empty_list : {A : Type 0} (list : List A) → length list ≡ 0 → list ≡ []
-empty_list [] none = refl
-empty_list (x ∷ list) none = absurd (omega (arith, none))
 
 -- ---- one turn of the machine
 
@@ -358,7 +349,7 @@ module _ {Part : Type 0} (scheme : Scheme Part) (next : Option ℕ) (begun : Lis
 
 module _ {Part : Type 0} (scheme : Scheme Part) (old new : List Step) (old_parts parts : List Part) (wanted : Option ℕ) where
   pub takes : (token : Token) (class : ℕ) → class ≡ token_class scheme.lexicon token → Advances scheme (Some class) old old_parts wanted new parts
-      → wanted ≡ Some class → (new_parts : List Part) → new_parts ≡ parts ++ scheme.of_token token ∷ [] → Takes scheme token true old old_parts new new_parts
+      → wanted ≡ Some class → (new_parts : List Part) → new_parts ≡ parts ++ parts_of_token scheme class token → Takes scheme token true old old_parts new new_parts
   takes token class is advances same new_parts made =
       let g = scheme.grammar in
       let one = subst (λ w. Wants g (Some class) (symbols_of old) w (symbols_of new)) same advances.wants in
@@ -367,7 +358,8 @@ module _ {Part : Type 0} (scheme : Scheme Part) (old new : List Step) (old_parts
         follows = λ passed f. subst (λ k. Follows g (passed ++ k ∷ []) (symbols_of new)) is (follows_class g passed (symbols_of old) class (symbols_of new) f one);
         fits = subst (λ (l : List Part). Fits scheme new l) (sym made) (fits token (sym is));
         goes = λ left all under. subst (λ (l : List Part). IsUnderWay scheme new l left all) (sym made)
-            (token_taken scheme wanted new parts all token left (advances.goes (token ∷ left) all (ap Some (sym is)) under));
+            (taken scheme class new parts all token left
+            (subst (λ w. IsUnderWay scheme (with_class w new) parts (token ∷ left) all) same (advances.goes (token ∷ left) all (ap Some (sym is)) under)));
       }
 
   pub sticks : (token : Token) (class : ℕ) → class ≡ token_class scheme.lexicon token → Advances scheme (Some class) old old_parts wanted new parts

@@ -15,7 +15,7 @@ use Rattle.dcv_lexer.specs.Cuts.{Token}
 use Rattle.dcv_observer.specs.Items.{token_class}
 use Rattle.dcv_translation.specs.declared.machine.Step.{Step}
 use Rattle.dcv_translation.specs.declared.machine.Step.TheVariants.{Class, Rule, Close}
-use Rattle.dcv_observer.specs.Scheme.{Scheme, parts_of, IsOfBody}
+use Rattle.dcv_observer.specs.Scheme.{Scheme, parts_of_token, parts_of, IsOfBody}
 
 abbrev pub step_of : Symbol → Step
 step_of (ClassSymbol class) = Class class
@@ -30,7 +30,7 @@ symbols_of (Close rule first ∷ steps) = symbols_of steps
 abbrev pub Runs : {Part : Type 0} → Scheme Part → List Step → Nodes Token → List Part → List Part → Type 0
 Runs scheme [] done parts all = parts ≡ all
 Runs scheme (Class class ∷ steps) (leaf token next) parts all =
-    (token_class scheme.lexicon token ≡ class) × Runs scheme steps next (parts ++ scheme.of_token token ∷ []) all
+    (token_class scheme.lexicon token ≡ class) × Runs scheme steps next (parts ++ parts_of_token scheme class token) all
 Runs scheme (Rule number ∷ steps) (node rule inner next) parts all =
     (rule ≡ number)
     × ((body : List Symbol) × IsBody scheme.grammar number body × AreTrees scheme.grammar (token_class scheme.lexicon) body inner)
@@ -53,7 +53,7 @@ pub record IsUnderWay {Part : Type 0} (scheme : Scheme Part) (steps : List Step)
 abbrev pub Fits : {Part : Type 0} → Scheme Part → List Step → List Part → Type 0
 Fits scheme [] parts = Unit {0}
 Fits scheme (Class class ∷ steps) parts =
-    (token : Token) → token_class scheme.lexicon token ≡ class → Fits scheme steps (parts ++ scheme.of_token token ∷ [])
+    (token : Token) → token_class scheme.lexicon token ≡ class → Fits scheme steps (parts ++ parts_of_token scheme class token)
 Fits scheme (Rule number ∷ steps) parts =
     (body : List Symbol) (trees : Nodes Token) → IsBody scheme.grammar number body → AreTrees scheme.grammar (token_class scheme.lexicon) body trees
     → Fits scheme steps (parts ++ scheme.action number (parts_of scheme trees) ∷ [])

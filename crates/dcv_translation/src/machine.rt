@@ -7,7 +7,7 @@ ghost use Rattle.dcv_grammar.specs.Predictive.{IsPredictive};
 ghost use Rattle.dcv_observer.specs.Items.{IsSyntaxFault, token_class};
 ghost use Rattle.dcv_observer.specs.Left.{seen};
 ghost use Rattle.dcv_observer.specs.declared.fault.ObsFault.TheVariants.{Syntax, Memory};
-ghost use Rattle.dcv_observer.specs.Scheme.{IsOfBody, StandsFor};
+ghost use Rattle.dcv_observer.specs.Scheme.{parts_of_token, IsOfBody, StandsFor};
 ghost use Rattle.dcv_translation.specs.UnderWay.{step_of, symbols_of, IsUnderWay, IsReady, Advances, Takes};
 ghost use Rattle.dcv_translation.specs.declared.machine.Step.TheVariants.{Rule as RuleStep, Close as CloseStep};
 
@@ -104,9 +104,23 @@ impl<'a, 't, T: Translation<'a>> Machine<'a, 't, T> {
         if wanted != Some(item.class) {
             return Ok(false);
         }
+        self.add(item)?;
+        Ok(true)
+    }
+
+    // Adds what a token stands for, if it stands for anything.
+    fn add(&mut self, item: Item<'a>) -> Result<(), AllocError>
+        ensures grammar { self.new.grammar ≡ self.old.grammar }
+        ensures steps { self.new.steps.items ≡ self.old.steps.items }
+        ensures parts { OnOk result (map T.meaning self.new.parts.items
+            ≡ map T.meaning self.old.parts.items ++ parts_of_token T.scheme item.entry.class (seen item.entry)) }
+    {
+        if !self.translation.has_part(item.class) {
+            return Ok(());
+        }
         self.parts.reserve(1)?;
         self.parts.push_reserved(self.translation.token(item));
-        Ok(true)
+        Ok(())
     }
 
     // The part of the whole after the last token, where it ends a sentence.

@@ -12,7 +12,7 @@ use dcv_lexer::Lexicon;
 use dcv_observer::Item;
 use std::alloc::AllocError;
 
-/// A language, and what its derivation trees stand for: `scheme` has what a token stands for, and the action of each rule.
+/// A language, and what its derivation trees stand for: `scheme` has what its tokens stand for, and the action of each rule.
 pub trait Translation<'a> {
     /// What a symbol stands for, in code.
     type Part: Drop;
@@ -36,7 +36,11 @@ pub trait Translation<'a> {
         ensures grammar { grammar_of result.now ≡ scheme.grammar }
         ensures predictive { IsPredictive scheme.grammar };
 
-    /// What a token stands for.
+    /// Whether the tokens of a class stand for anything.
+    fn has_part(&self, class: u8) -> bool
+        ensures { result ≡ scheme.has_part class };
+
+    /// What a token of such a class stands for.
     fn token(&self, item: Item<'a>) -> Self::Part
         ensures { meaning result ≡ scheme.of_token (seen item.entry) };
 

@@ -1,7 +1,8 @@
-use Rattle.std.proofs.Common.{◌≡◌, ◌++◌, ◌∷◌, [], map, reverse, sym, ap, ◌∙◌}
-use Rattle.std.proofs.lemmas.List.{map-append}
+use Rattle.std.proofs.Common.{List, true, map, reverse, sym, subst, ◌∙◌}
 use Rattle.dcv_grammar.proofs.Stacks.{same_class, other_class, not_true, not_false}
 use Rattle.dcv_observer.specs.Left.{seen}
+use Rattle.dcv_translation.specs.UnderWay.{Takes}
+use Rattle.dcv_translation.specs.declared.machine.Step.{Step}
 use Rattle.dcv_translation.proofs.Running.{takes, sticks}
 use Rattle.dcv_translation.proofs.machine.Machine.take.Goals as goal
 
@@ -21,11 +22,9 @@ returns-clause-taken g c =
     let scheme = g.T.Translation.scheme in
     let old = c.args.self.now in
     let parts = c.advance.new.self.parts.items in
-    let made : map meaning c.push_reserved.new.self.items ≡ map meaning parts ++ scheme.of_token (seen c.args.item) ∷ [] =
-    ap (map meaning) (c.push_reserved.ensures.items ∙ ap (λ all. all ++ c.token.result ∷ []) c.in_ok-reserve.ensures.items)
-    ∙ map-append meaning parts (c.token.result ∷ [])
-    ∙ ap (λ part. map meaning parts ++ part ∷ []) c.token.ensures in
     let wanted = c.in_ok-wanted.wanted in
     let same = same_class wanted c.args.item.class (not_true _ (sym c.ne.ensures ∙ c.if-ne.false)) in
-    takes scheme (reverse old.steps.items) (reverse c.advance.new.self.steps.items) (map meaning old.parts.items) (map meaning parts) wanted
-    (seen c.args.item) c.args.item.class c.requires.class c.in_ok-wanted.ensures.advances same (map meaning c.push_reserved.new.self.items) made
+    subst (λ (steps : List Step). Takes scheme (seen c.args.item) true (reverse old.steps.items) (map meaning old.parts.items) (reverse steps) (map meaning c.add.new.self.parts.items))
+    (sym c.in_ok-add.ensures.steps)
+    (takes scheme (reverse old.steps.items) (reverse c.advance.new.self.steps.items) (map meaning old.parts.items) (map meaning parts) wanted
+    (seen c.args.item) c.args.item.class c.requires.class c.in_ok-wanted.ensures.advances same (map meaning c.add.new.self.parts.items) c.in_ok-add.ensures.parts)
