@@ -19,7 +19,9 @@ pub use Rattle.dcv_cli.specs.declared.refused.Refused.{Refused}
 pub use Rattle.dcv_cli.specs.declared.refused.Which.{Which}
 pub use Rattle.dcv_cli.specs.declared.refused.Which.TheVariants.{First, Only, Second}
 pub use Rattle.dcv_cli.specs.declared.status.Status.{Status}
-pub use Rattle.dcv_cli.specs.declared.status.Status.TheVariants.{Automaton as StatusAutomaton, Budget as StatusBudget, Done, Formula as StatusFormula, Input, Memory, NotValid, Observer as StatusObserver, Output, Trace as StatusTrace, Usage, Valid}
+pub use Rattle.dcv_cli.specs.declared.status.Status.TheVariants.{Automaton as StatusAutomaton, Budget as StatusBudget, Formula as StatusFormula}
+pub use Rattle.dcv_cli.specs.declared.status.Status.TheVariants.{Observer as StatusObserver, Trace as StatusTrace}
+pub use Rattle.dcv_cli.specs.declared.status.Status.TheVariants.{Done, Input, Memory, NotValid, Output, Usage, Valid}
 pub use Rattle.dcv_command.specs.Request.{Certify, Convert, Implies, IsTaken, Replay, Report, Request, Stuck, Sweep, Synth, files_of}
 pub use Rattle.dcv_command.specs.declared.words.Subset.{Subset}
 pub use Rattle.dcv_command.specs.declared.words.Version.{Version}

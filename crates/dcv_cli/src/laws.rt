@@ -119,8 +119,6 @@ pub fn equal_meanings()
 pub fn printed_is_certified()
     ensures { PrintedIsCertified }
 {
-    names_are_short();
-    measures_bound_core();
     one_automaton_text();
     one_answer();
     good_words_are_certified();
