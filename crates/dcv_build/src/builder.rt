@@ -81,8 +81,9 @@ pub fn build_counted(alloc: Global, core: &Core, limits: Limits) -> Result<Built
     builder.build_counted(core)
 }
 
-/// An automaton with the verdict of the goal's words, which need not accept all of them: its last operator is not minimised, and of a product
-/// that cannot exceed the limits no more is explored than the verdict needs.
+/// An automaton with the verdict of the goal's words: its shortest words are theirs, and its longer ones need not be.
+///
+/// Nothing is minimised after its last operator was explored, and of a product that cannot exceed the limits no more is explored than the verdict needs.
 pub fn build_for_verdict(
     alloc: Global,
     core: &Core,
