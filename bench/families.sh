@@ -1,72 +1,68 @@
 #!/usr/bin/env bash
 # Measures `dcvalid check` and MONA (Debian's package `mona`) in turn, on files that bench/families.py writes: the least time of so many runs
-# (RUNS, 5 by custom) in milliseconds, start and end of the process included, the most memory that one took, and the quotients. The last line
+# (RUNS, 5 by custom) in milliseconds, start and end of the process included, the memory that one took, and the quotients. The last line
 # has the geometric mean of the times' quotients.
 #
 #   bench/families.sh            every case
 #   bench/families.sh CASE..     these, as `bench/families.sh 'past 12'`
 #
 # What is valid for one must be valid for the other; where MONA's question takes over a minute, no quotient is told.
-# The last figures: 29 November 2026, an Intel Xeon beside a gate on all four processors, with the priority of real time: the least of eight runs. None is above MONA's time or memory.
-# `past 12`, the nearest but for Boolean mixtures, took 11.1 to 11.4 ms in turns of 150 runs, and MONA 11.5 to 12.1. What takes a few milliseconds is most of it the start of the process.
+# The last figures: 1 December 2026, an unproved build, beside checks on all processors, with the priority of real time: the least of eight runs. Nothing is above 0.65 of MONA's time or memory.
+# What takes a millisecond or two is most of it the start of the process.
 #
 #   case                      ms      MONA  times          MB      MONA  times  answer
-#   arbiter 2 4              3.2       4.3   0.75         2.0       4.6   0.44  not valid
-#   arbiter 3 4              3.3       5.0   0.65         2.1       4.7   0.45  not valid
-#   arbiter 4 4              4.4       7.2   0.61         2.5       4.9   0.51  not valid
-#   arbiter 5 6             49.8     121.8   0.41        15.5      42.1   0.37  not valid
-#   arbiter 6 5            289.0     496.2   0.58        48.8      81.7   0.60  not valid
-#   arbiter 8 3            278.8     421.4   0.66        48.1      82.1   0.59  not valid
-#   chain 1500               4.4    1111.9   0.00         2.2       6.4   0.34  not valid
-#   chain 200                3.5      23.6   0.15         2.0       4.7   0.42  not valid
-#   chain 700                3.7     221.0   0.02         2.1       5.4   0.38  not valid
-#   count 4                  2.9       5.2   0.56         2.0       4.4   0.45  not valid
-#   count 6                  2.8       7.2   0.39         2.0       4.6   0.43  not valid
-#   count 8                  3.3      21.6   0.15         2.0       5.0   0.39  not valid
-#   handshake 14             4.8       9.2   0.52         2.4       4.8   0.50  valid
-#   handshake 25             5.8      15.5   0.38         2.7       4.9   0.55  valid
-#   handshake 40             9.0      33.9   0.27         3.9       5.8   0.66  valid
-#   layers 120              11.2      85.7   0.13         2.9      12.7   0.22  not valid
-#   layers 30                6.0      17.3   0.35         2.6       5.7   0.45  not valid
-#   layers 60                9.1      31.0   0.29         2.5       7.3   0.34  not valid
-#   mixture 12              45.0      52.8   0.85        12.2      15.7   0.77  not valid
-#   mixture 6                3.3       5.2   0.64         2.1       4.7   0.45  not valid
-#   mixture 9               13.6      34.1   0.40         5.3      13.8   0.38  not valid
-#   past 12                 12.8      14.8   0.86         3.8       6.3   0.60  not valid
-#   past 6                   2.8       4.2   0.67         2.1       4.4   0.47  not valid
-#   past 9                   4.0       5.5   0.73         2.2       4.6   0.48  not valid
-#   quantified 4             3.0       5.2   0.58         2.0       4.6   0.44  not valid
-#   quantified 6             3.2       7.6   0.42         2.0       4.6   0.43  not valid
-#   quantified 8             3.5      21.3   0.16         2.0       5.2   0.38  not valid
-#   response 11             13.8      16.8   0.82         4.1       7.6   0.55  not valid
-#   response 13             43.4      75.3   0.58        11.1      17.0   0.65  not valid
-#   response 8               4.2       5.5   0.75         2.2       5.0   0.45  not valid
-#   separation 100           3.5      13.2   0.26         2.1       4.5   0.47  not valid
-#   separation 300           4.8     112.1   0.04         2.2       4.7   0.48  not valid
-#   separation 600           5.8     389.5   0.01         2.4       5.2   0.45  not valid
-#   geometric mean of the times: 0.292; of the twelve large ones (LARGE of families.py) 0.243
-# Instructions of one run (callgrind, millions), which no other load disturbs, of a program that is built without its proofs (`bench/unproved.py`): before
-# the minimiser divided by hashes, with them, with a builder that explores nothing twice, with shorter searches for shortest words, fewer lists where there are few
-# states and no memo for lists of operands with one slot to go (now), and MONA's.
+#   arbiter 2 4              1.9       5.2   0.36         2.0       4.5   0.45  not valid
+#   arbiter 3 4              1.9       4.6   0.40         2.0       4.6   0.44  not valid
+#   arbiter 4 4              2.7       7.2   0.37         2.1       5.0   0.43  not valid
+#   arbiter 5 6             25.3     338.1   0.07         4.5      42.1   0.11  not valid
+#   arbiter 6 5            292.4     657.9   0.44        41.6      81.8   0.51  not valid
+#   arbiter 8 3            141.2     509.6   0.28        19.7      82.2   0.24  not valid
+#   chain 1500               1.6    1728.8   0.00         2.2       6.4   0.34  not valid
+#   chain 200                1.2      31.7   0.04         1.8       4.6   0.40  not valid
+#   chain 700                1.4     361.1   0.00         1.9       5.4   0.36  not valid
+#   count 4                  1.3       4.7   0.29         2.0       4.4   0.45  not valid
+#   count 6                  1.3       7.3   0.18         2.0       4.6   0.43  not valid
+#   count 8                  1.3      29.7   0.04         2.0       5.1   0.40  not valid
+#   handshake 14             5.1      20.9   0.25         2.2       4.8   0.47  valid
+#   handshake 25             8.6      45.6   0.19         2.5       4.9   0.52  valid
+#   handshake 40            12.9      89.0   0.14         3.6       5.8   0.62  valid
+#   layers 120              16.3     156.3   0.10         2.8      12.7   0.22  not valid
+#   layers 30                6.6      22.4   0.30         2.4       5.7   0.42  not valid
+#   layers 60               13.3      60.5   0.22         2.5       7.3   0.34  not valid
+#   mixture 12              33.3     107.2   0.31         7.0      15.8   0.44  not valid
+#   mixture 6                2.3       6.7   0.35         1.9       4.6   0.42  not valid
+#   mixture 9                8.8      52.4   0.17         3.2      13.9   0.23  not valid
+#   past 12                 13.6      26.6   0.51         3.7       6.4   0.58  not valid
+#   past 6                   1.9       4.5   0.42         2.0       4.4   0.45  not valid
+#   past 9                   2.9       5.3   0.55         2.2       4.6   0.47  not valid
+#   quantified 4             1.4       3.9   0.34         1.9       4.5   0.42  not valid
+#   quantified 6             1.7      10.2   0.16         2.0       4.6   0.43  not valid
+#   quantified 8             1.4      28.9   0.05         2.0       5.2   0.39  not valid
+#   response 11             15.9      24.4   0.65         4.3       7.5   0.58  not valid
+#   response 13             81.5     199.3   0.41        10.9      16.9   0.64  not valid
+#   response 8               3.2       6.0   0.54         2.2       4.9   0.45  not valid
+#   separation 100           2.7      28.4   0.09         2.1       4.6   0.47  not valid
+#   separation 300           4.1     160.5   0.03         2.2       4.7   0.47  not valid
+#   separation 600           4.4     651.1   0.01         2.4       5.2   0.47  not valid
+#   geometric mean of the times: 0.141
+# Instructions of one run (callgrind, millions), which no other load disturbs, of a program that is built without its proofs (`bench/unproved.py`): on 27 November 2026, before the minimiser divided by
+# hashes; on 29 November; on 1 December, with a verdict that is not minimised, rows of large sets that are made from those of smaller ones, and arenas that grow fourfold; with a last operator that is explored
+# no further than its verdict needs (now); and MONA's.
 #
-#   arbiter 5 6        610     401     410     367     629
-#   arbiter 6 5       1636    1145    1179    1073    1312
-#   arbiter 8 3       1482    1233    1288    1202     891
-#   chain 700          4.1     4.2     4.3     3.9    2514
+#   arbiter 5 6        610     367     229      83     629
+#   arbiter 6 5       1636    1073     701     702    1312
+#   arbiter 8 3       1482    1202     905     505     891
+#   chain 700          4.1     3.9     1.2     1.2    2514
 #   count 8            0.4     0.4     0.4     0.4     159
-#   handshake 40      52.4    53.2    54.1    51.9     398
-#   layers 120         103     107      77      73     879
-#   mixture 12         342     285     305     285     202
-#   past 12            181     135     135     126     103
-#   quantified 8       0.8     0.7     0.8     0.7     160
-#   response 13        608     494     504     435     421
-#   separation 300    13.3    13.6    13.9    12.7    1234
-#   15 macros that double their number of conjunctions (`m14`): 574 before, 306 with a builder that explores 16,385 steps in place of 32,767, 223 with fewer lists, and 187 with rows that
-#   stay as they are, a cache that is made when it is needed and numbers that are known by their places; with these `mixture 12` takes 263, `past 12` 123 and `arbiter 5 6` 363
-# With these the proved program takes 20.5 ms of `m14` where it took 22.9, and in turns of 60 to 80 runs with MONA 0.78 of its time of `mixture 12`, 0.96 and 0.97 of `past 12` (the program before, in the same hour: 1.08), 0.40 of `arbiter 5 6`.
-# Of `past 12` the memory is 3.8 MB now, in place of 6.1, and its time with it, since lists of operands that are not remembered take no pages.
-# With a verdict that is not minimised, rows of large sets that are made from those of smaller ones, and arenas that grow fourfold, on 1 December 2026: `arbiter 5 6` 229 (13.8 MB), `arbiter 6 5` 701 (41.3 MB),
-# `arbiter 8 3` 905 (44.9 MB), `handshake 40` 42, `layers 120` 71, `mixture 12` 196 (12.9 MB), `past 12` 80 (3.9 MB), `response 13` 387 (10.7 MB). Maps of the memo that grow fourfold too took 0.4 % less, and up to a quarter more memory.
+#   handshake 40      52.4    51.9      42      42     398
+#   layers 120         103      73      71      71     879
+#   mixture 12         342     285     196     102     202
+#   past 12            181     126      80      80     103
+#   quantified 8       0.8     0.7     0.7     0.7     160
+#   response 13        608     435     387     388     421
+#   separation 300    13.3    12.7    10.3    10.4    1234
+#   15 macros that double their number of conjunctions (`m14`): 574 and 187
+# Maps of the memo that grow fourfold too took 0.4 % less, and up to a quarter more memory.
 set -euo pipefail
 here=$(cd "$(dirname "$(readlink -f "${BASH_SOURCE[0]}")")" && pwd)
 program=${PROGRAM:-$here/../crates/dcvalid/out/dcvalid}
@@ -75,16 +71,22 @@ files=$(mktemp -d)
 trap 'rm -rf "$files"' EXIT
 python3 "$here/families.py" "$files"
 
-# Runs a command once, and keeps the least time and the most memory of its runs so far in the variables of that name.
+# Runs a command once, and keeps its output and its memory, where it ends within a minute.
+look() {
+  local name=$1
+  shift
+  /usr/bin/time -o "$files/.kept" -f %M timeout 60 "$@" >"$files/.$name" 2>/dev/null || true
+  most[$name]=$(tail -n 1 "$files/.kept")
+}
+
+# Runs it once more, with nothing around it, and keeps the least time so far.
 measure() {
-  local name=$1 begun took kept
+  local name=$1 begun took
   shift
   begun=${EPOCHREALTIME/./}
-  /usr/bin/time -o "$files/.kept" -f %M timeout 60 "$@" >"$files/.$name" 2>/dev/null || true
+  "$@" >/dev/null 2>&1 || true
   took=$((${EPOCHREALTIME/./} - begun))
-  kept=$(tail -n 1 "$files/.kept")
   [ "${least[$name]:-$took}" -lt "$took" ] || least[$name]=$took
-  [ "${most[$name]:-0}" -gt "$kept" ] || most[$name]=$kept
 }
 
 printf '%-18s %9s %9s %6s   %9s %9s %6s  %s\n' case ms MONA times MB MONA times answer
@@ -94,12 +96,15 @@ for file in "$files"/*; do
   [ $# -eq 0 ] || [[ " $* " == *" $case "* ]] || continue
   python3 "$here/to_mona.py" "$file" >"$files/.question"
   declare -A least=() most=()
-  for _ in $(seq "${RUNS:-5}"); do
-    measure ours "$program" check "$file"
-    measure theirs mona -q "$files/.question"
-  done
+  look ours "$program" check "$file"
+  look theirs mona -q "$files/.question"
   ours=$(head -n 1 "$files/.ours")
   theirs=$(grep -m 1 -o -E 'is valid|is unsatisfiable|counter-example' "$files/.theirs" || echo 'no answer')
+  [ "$theirs" != 'no answer' ] || least[theirs]=60000000
+  for _ in $(seq "${RUNS:-5}"); do
+    measure ours "$program" check "$file"
+    [ "$theirs" = 'no answer' ] || measure theirs mona -q "$files/.question"
+  done
   case "$ours/$theirs" in
     'valid'/'is valid' | 'not valid'*/'is unsatisfiable' | 'not valid'*/'counter-example' | */'no answer') ;;
     *) echo "$case: $ours here, $theirs by MONA" >&2; exit 1 ;;
