@@ -8,7 +8,7 @@ use Rattle.dcv_dfa.specs.declared.node_lines.NodeLine.{NodeLine as CodeLine}
 use Rattle.dcv_automaton_text.specs.File.{NodeLine}
 use Rattle.dcv_automaton_file.specs.File.{node_line}
 use Rattle.dcv_automaton_file.specs.declared.lines.Listing.{Listing}
-use Rattle.dcv_automaton_file.specs.Lines.{one_listed, listed_by, listed}
+use Rattle.dcv_automaton_file.specs.Lines.{in_turn, one_listed, listed_by, listed}
 use Rattle.dcv_automaton_file.proofs.Rows.{range_more, numbered_more}
 
 -- one number more
@@ -68,9 +68,9 @@ module _ (listing : Listing) where
       text_more texts text ∙ ap (λ b. joined texts ++ ((if b then listing.between.now else []) ++ one_listed listing text)) (sym is)
   texts_further texts false some text is = ap joined (append-nil texts) ∙ sym (append-nil (joined texts))
 
-  pub texts_end : (texts : List (List ℕ)) (some : Bool) → some ≡ has_some texts → joined texts ++ (if some then [] else listing.none.now) ≡ listed listing texts
-  texts_end [] some is = ap (λ b. if b then [] else listing.none.now) is
-  texts_end (text ∷ texts) some is = ap (λ b. joined (text ∷ texts) ++ (if b then [] else listing.none.now)) is ∙ append-nil (joined (text ∷ texts))
+  pub texts_end : (texts : List (List ℕ)) (some : Bool) → some ≡ has_some texts → joined texts ++ (if some then [] else in_turn listing.none.now) ≡ listed listing texts
+  texts_end [] some is = ap (λ b. if b then [] else in_turn listing.none.now) is
+  texts_end (text ∷ texts) some is = ap (λ b. joined (text ∷ texts) ++ (if b then [] else in_turn listing.none.now)) is ∙ append-nil (joined (text ∷ texts))
 
 -- ---- the same lines in other words
 

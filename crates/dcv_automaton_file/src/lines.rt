@@ -5,7 +5,7 @@ ghost use Rattle.dcv_io.specs.Putting.{Puts};
 ghost use Rattle.dcv_dfa.specs.Raw.{RawValue};
 ghost use Rattle.dcv_language.specs.declared.child.Child.{Child as PlainChild};
 ghost use Rattle.dcv_automaton_file.specs.File.{texts_of, node_line, state_lines};
-ghost use Rattle.dcv_automaton_file.specs.Lines.{child_text, node_text, row_text, one_listed, listed, accepting_numbers};
+ghost use Rattle.dcv_automaton_file.specs.Lines.{in_turn, child_text, node_text, row_text, one_listed, listed, accepting_numbers};
 
 use dcv_dfa::{Auto, NodeLine};
 use dcv_io::{Target, put_pieces};
@@ -17,22 +17,22 @@ use itoa::Buffer;
 #[derive(Clone, Copy)]
 pub struct Listing<'a> {
     /// What stands before each.
-    pub before: &'a [u8],
+    pub before: &'a [&'a [u8]],
     /// What stands after each.
     pub after: &'a [u8],
     /// What stands between every two.
     pub between: &'a [u8],
     /// What stands in place of an empty list.
-    pub none: &'a [u8],
+    pub none: &'a [&'a [u8]],
 }
 
 /// How a node's line is laid out: what stands before its number, before the name of its variable, before its children, and at the end.
 #[derive(Clone, Copy)]
 pub struct NodeLayout<'a> {
     /// What stands before the node's number.
-    pub number: &'a [u8],
+    pub number: &'a [&'a [u8]],
     /// What stands before the name of its variable.
-    pub variable: &'a [u8],
+    pub variable: &'a [&'a [u8]],
     /// What stands before the child where the variable is true.
     pub hi: &'a [u8],
     /// What stands before the child where it is false.
@@ -45,9 +45,9 @@ pub struct NodeLayout<'a> {
 #[derive(Clone, Copy)]
 pub struct RowLayout<'a> {
     /// What stands before the state's number.
-    pub number: &'a [u8],
+    pub number: &'a [&'a [u8]],
     /// What stands before its row.
-    pub row: &'a [u8],
+    pub row: &'a [&'a [u8]],
     /// What ends the line.
     pub end: &'a [u8],
 }
@@ -59,7 +59,7 @@ pub fn put_names<T: Target>(target: &mut T, listing: &Listing<'_>, names: &[Name
     ensures { Puts (T.standing target.old) (T.standing target.new) (listed listing.now (texts_of names.now)) }
 {
     let Some((first, others)) = names.split_first() else {
-        return target.put(listing.none);
+        return put_pieces(target, listing.none);
     };
     put_one(target, listing, b"", first.text.as_bytes());
     for name in others {
@@ -71,25 +71,36 @@ pub fn put_names<T: Target>(target: &mut T, listing: &Listing<'_>, names: &[Name
 fn put_one<T: Target>(target: &mut T, listing: &Listing<'_>, between: &[u8], text: &[u8])
     ensures { Puts (T.standing target.old) (T.standing target.new) (between.now ++ one_listed listing.now text.now) }
 {
-    put_pieces(target, &[between, listing.before, text, listing.after]);
+    target.put(between);
+    put_pieces(target, listing.before);
+    target.put(text);
+    target.put(listing.after);
 }
 
 // ---- nodes
 
 /// Puts the numbers below a count, each between two texts.
-pub fn put_numbers<T: Target>(target: &mut T, before: &[u8], after: &[u8], count: u32)
-    ensures { Puts (T.standing target.old) (T.standing target.new) (flat_map (λ number. before.now ++ (decimal number ++ after.now)) (range_with_len 0 count)) }
+pub fn put_numbers<T: Target>(target: &mut T, before: &[&[u8]], after: &[u8], count: u32)
+    ensures { Puts (T.standing target.old) (T.standing target.new) (flat_map (λ number. in_turn before.now ++ (decimal number ++ after.now)) (range_with_len 0 count)) }
 {
     for number in 0..count {
         put_number(target, before, after, number);
     }
 }
 
-fn put_number<T: Target>(target: &mut T, before: &[u8], after: &[u8], number: u32)
-    ensures { Puts (T.standing target.old) (T.standing target.new) (before.now ++ (decimal number ++ after.now)) }
+fn put_number<T: Target>(target: &mut T, before: &[&[u8]], after: &[u8], number: u32)
+    ensures { Puts (T.standing target.old) (T.standing target.new) (in_turn before.now ++ (decimal number ++ after.now)) }
+{
+    put_pieces(target, before);
+    put_digits(target, number as usize);
+    target.put(after);
+}
+
+fn put_digits<T: Target>(target: &mut T, number: usize)
+    ensures { Puts (T.standing target.old) (T.standing target.new) (decimal number) }
 {
     let mut digits = Buffer::new();
-    put_pieces(target, &[before, digits.format(number).as_bytes(), after]);
+    target.put(digits.format(number).as_bytes());
 }
 
 /// Puts a line for each node.
@@ -129,19 +140,13 @@ fn put_node<T: Target>(
 // The line up to its first child.
 fn put_node_start<T: Target>(target: &mut T, layout: &NodeLayout<'_>, number: usize, name: &[u8])
     ensures { Puts (T.standing target.old) (T.standing target.new)
-        (layout.now.number.now ++ (decimal number ++ (layout.now.variable.now ++ (name.now ++ layout.now.hi.now)))) }
+        (in_turn layout.now.number.now ++ (decimal number ++ (in_turn layout.now.variable.now ++ (name.now ++ layout.now.hi.now)))) }
 {
-    let mut digits = Buffer::new();
-    put_pieces(
-        target,
-        &[
-            layout.number,
-            digits.format(number).as_bytes(),
-            layout.variable,
-            name,
-            layout.hi,
-        ],
-    );
+    put_pieces(target, layout.number);
+    put_digits(target, number);
+    put_pieces(target, layout.variable);
+    target.put(name);
+    target.put(layout.hi);
 }
 
 /// Puts a state as its number, and a node as `nJ`.
@@ -168,7 +173,7 @@ pub fn put_rows<T: Target>(target: &mut T, layout: &RowLayout<'_>, rows: &[Child
 
 fn put_row<T: Target>(target: &mut T, layout: &RowLayout<'_>, number: usize, row: Child)
     ensures { Puts (T.standing target.old) (T.standing target.new)
-        (layout.now.number.now ++ (decimal number ++ (layout.now.row.now ++ (child_text row ++ layout.now.end.now)))) }
+        (in_turn layout.now.number.now ++ (decimal number ++ (in_turn layout.now.row.now ++ (child_text row ++ layout.now.end.now)))) }
 {
     put_row_start(target, layout, number);
     put_child(target, row);
@@ -177,13 +182,11 @@ fn put_row<T: Target>(target: &mut T, layout: &RowLayout<'_>, number: usize, row
 
 // The line up to its row.
 fn put_row_start<T: Target>(target: &mut T, layout: &RowLayout<'_>, number: usize)
-    ensures { Puts (T.standing target.old) (T.standing target.new) (layout.now.number.now ++ (decimal number ++ layout.now.row.now)) }
+    ensures { Puts (T.standing target.old) (T.standing target.new) (in_turn layout.now.number.now ++ (decimal number ++ in_turn layout.now.row.now)) }
 {
-    let mut digits = Buffer::new();
-    put_pieces(
-        target,
-        &[layout.number, digits.format(number).as_bytes(), layout.row],
-    );
+    put_pieces(target, layout.number);
+    put_digits(target, number);
+    put_pieces(target, layout.row);
 }
 
 /// Puts the numbers of the states that accept.
@@ -231,9 +234,9 @@ fn between_if<'a>(listing: &Listing<'a>, some: bool) -> &'a [u8]
 
 // What stands in place of none, unless there is one.
 fn put_unless<T: Target>(target: &mut T, listing: &Listing<'_>, some: bool)
-    ensures { Puts (T.standing target.old) (T.standing target.new) (if some then [] else listing.now.none.now) }
+    ensures { Puts (T.standing target.old) (T.standing target.new) (if some then [] else in_turn listing.now.none.now) }
 {
     if !some {
-        target.put(listing.none);
+        put_pieces(target, listing.none);
     }
 }

@@ -15,14 +15,21 @@
 --       return nx == 0 || nx == 1;
 --     }
 -- and where there are no parameters `void` stands for them, and where there are no locals the empty line after them is not there.
---     right_text right       a right side
---     statement_line         a line of a statement
---     text_of unit           the bytes
-use Rattle.std.specs.Prelude.{ℕ, List, [], ◌∷◌, ◌++◌, codes}
+--     statement_line statement       a line of a statement
+--     layout_of unit                 the layout
+--     text_of unit                   its bytes
+use Rattle.std.specs.Prelude.{ℕ, List, [], ◌∷◌, codes}
 use Rattle.std.specs.Fmt.{decimal}
-use Rattle.std.specs.List.{flat_map, join_by}
+pub use Rattle.dcv_observer.specs.Layouts.{text_in, pieces_in}
+use Rattle.dcv_observer.specs.Layouts.{Layout, Empty, Space, Newline, Word, ◌<>◌, ◌<+>◌, Each, Joined}
 use Rattle.dcv_c.specs.Tree.{Item, Constant, Named, Condition, Holds, Equals, Test, Right, Plain, Chosen, Statement, Assign, When}
 use Rattle.dcv_c.specs.Tree.{Returned, Fixed, Read, Tested, Assignment, CUnit}
+
+abbrev indent : Layout
+indent = Space <> Space
+
+abbrev end : Layout
+end = Word (codes ";") <> Newline
 
 -- ---- statements
 
@@ -30,61 +37,70 @@ abbrev pub item_text : Item → List ℕ
 item_text (Constant number) = decimal number
 item_text (Named name) = name
 
-abbrev pub condition_text : Condition → List ℕ
-condition_text (Holds name) = name
-condition_text (Equals name number) = name ++ (codes " == " ++ decimal number)
+abbrev pub condition_layout : Condition → Layout
+condition_layout (Holds name) = Word name
+condition_layout (Equals name number) = Word name <+> Word (codes "==") <+> Word (decimal number)
 
-abbrev pub right_text : Right → List ℕ
-right_text (Plain item) = item_text item
-right_text (Chosen condition item otherwise) = condition_text condition ++ (codes " ? " ++ (item_text item ++ (codes " : " ++ item_text otherwise)))
+abbrev pub right_layout : Right → Layout
+right_layout (Plain item) = Word (item_text item)
+right_layout (Chosen condition item otherwise) =
+    condition_layout condition <+> Word (codes "?") <+> Word (item_text item) <+> Word (codes ":") <+> Word (item_text otherwise)
 
-abbrev pub statement_line : Statement → List ℕ
-statement_line (Assign left right) = codes "  " ++ (left ++ (codes " = " ++ (right_text right ++ codes ";\n")))
+abbrev pub statement_line : Statement → Layout
+statement_line (Assign left right) = indent <> Word left <+> Word (codes "=") <+> right_layout right <> end
 statement_line (When condition left item) =
-    codes "  if (" ++ (condition_text condition ++ (codes ") " ++ (left ++ (codes " = " ++ (item_text item ++ codes ";\n")))))
+    indent <> Word (codes "if") <+> Word (codes "(") <> condition_layout condition <> Word (codes ")") <+> Word left <+> Word (codes "=") <+> Word (item_text item) <> end
 
-abbrev pub test_text : Test → List ℕ
-test_text test = test.name ++ (codes " == " ++ decimal test.number)
+abbrev pub test_layout : Test → Layout
+test_layout test = Word test.name <+> Word (codes "==") <+> Word (decimal test.number)
 
-abbrev pub returned_text : Returned → List ℕ
-returned_text (Fixed number) = decimal number
-returned_text (Read name) = name
-returned_text (Tested tests) = join_by test_text (codes " || ") tests
+abbrev pub returned_layout : Returned → Layout
+returned_layout (Fixed number) = Word (decimal number)
+returned_layout (Read name) = Word name
+returned_layout (Tested tests) = Joined (Space <> Word (codes "||") <> Space) test_layout tests
 
 -- ---- declarations
 
-abbrev pub static_line : List ℕ → List ℕ
-static_line name = codes "static int " ++ (name ++ codes ";\n")
+abbrev pub static_line : List ℕ → Layout
+static_line name = Word (codes "static") <+> Word (codes "int") <+> Word name <> end
 
-abbrev pub assignment_line : Assignment → List ℕ
-assignment_line assignment = codes "  " ++ (assignment.name ++ (codes " = " ++ (decimal assignment.number ++ codes ";\n")))
+abbrev pub assignment_line : Assignment → Layout
+assignment_line assignment = indent <> Word assignment.name <+> Word (codes "=") <+> Word (decimal assignment.number) <> end
 
-abbrev pub parameter_text : List ℕ → List ℕ
-parameter_text name = codes "int " ++ name
+abbrev pub parameter_layout : List ℕ → Layout
+parameter_layout name = Word (codes "int") <+> Word name
 
-abbrev pub parameters_text : List (List ℕ) → List ℕ
-parameters_text [] = codes "void"
-parameters_text (name ∷ names) = join_by parameter_text (codes ", ") (name ∷ names)
+abbrev pub parameters_layout : List (List ℕ) → Layout
+parameters_layout [] = Word (codes "void")
+parameters_layout (name ∷ names) = Joined (Word (codes ",") <> Space) parameter_layout (name ∷ names)
 
-abbrev pub local_line : List ℕ → List ℕ
-local_line name = codes "  int " ++ (name ++ codes ";\n")
+abbrev pub local_line : List ℕ → Layout
+local_line name = indent <> Word (codes "int") <+> Word name <> end
 
-abbrev pub local_lines : List (List ℕ) → List ℕ
-local_lines [] = []
-local_lines (name ∷ names) = flat_map local_line (name ∷ names) ++ codes "\n"
+abbrev pub local_lines : List (List ℕ) → Layout
+local_lines [] = Empty
+local_lines (name ∷ names) = Each local_line (name ∷ names) <> Newline
 
 -- ---- the unit
 
-abbrev pub reset_text : CUnit → List ℕ
-reset_text unit = codes "\nvoid " ++ (unit.reset ++ (codes "(void)\n{\n" ++ (flat_map assignment_line unit.assignments ++ codes "}\n")))
+abbrev pub reset_lines : CUnit → Layout
+reset_lines unit =
+    Newline <> Word (codes "void") <+> Word unit.reset <> Word (codes "(") <> Word (codes "void") <> Word (codes ")") <> Newline
+    <> Word (codes "{") <> Newline <> Each assignment_line unit.assignments <> Word (codes "}") <> Newline
 
-abbrev pub step_head : CUnit → List ℕ
-step_head unit = codes "\nint " ++ (unit.step ++ (codes "(" ++ (parameters_text unit.parameters ++ codes ")\n{\n")))
+abbrev pub step_head : CUnit → Layout
+step_head unit =
+    Newline <> Word (codes "int") <+> Word unit.step <> Word (codes "(") <> parameters_layout unit.parameters <> Word (codes ")") <> Newline
+    <> Word (codes "{") <> Newline
 
-abbrev pub step_end : CUnit → List ℕ
-step_end unit = codes "  return " ++ (returned_text unit.returned ++ codes ";\n}\n")
+abbrev pub step_end : CUnit → Layout
+step_end unit = indent <> Word (codes "return") <+> returned_layout unit.returned <> end <> Word (codes "}") <> Newline
+
+abbrev pub step_lines : CUnit → Layout
+step_lines unit = step_head unit <> local_lines unit.locals <> Each statement_line unit.statements <> step_end unit
+
+unfoldable pub layout_of : CUnit → Layout
+layout_of unit = Each static_line unit.statics <> reset_lines unit <> step_lines unit
 
 unfoldable pub text_of : CUnit → List ℕ
-text_of unit =
-    flat_map static_line unit.statics
-    ++ (reset_text unit ++ (step_head unit ++ (local_lines unit.locals ++ (flat_map statement_line unit.statements ++ step_end unit))))
+text_of unit = text_in (layout_of unit)

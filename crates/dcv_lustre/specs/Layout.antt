@@ -7,14 +7,22 @@
 --       ok = RIGHT;
 --     tel
 -- and where there are no locals the word `var` is not there.
---     right_text right       a right side
---     equation_line          a line between `let` and `tel`
---     text_of node           the bytes
-use Rattle.std.specs.Prelude.{ℕ, if◌then◌else◌, List, [], ◌∷◌, ◌++◌, codes}
+--     equation_line equation         a line between `let` and `tel`
+--     layout_of node                 the layout
+--     text_of node                   its bytes
+use Rattle.std.specs.Prelude.{ℕ, if◌then◌else◌, List, [], ◌∷◌, codes}
 use Rattle.std.specs.Fmt.{decimal}
-use Rattle.std.specs.List.{flat_map, join_by}
+pub use Rattle.dcv_observer.specs.Layouts.{text_in, pieces_in}
+use Rattle.dcv_observer.specs.Layouts.{Layout, Empty, Space, Newline, Word, ◌<>◌, ◌<+>◌, Each, Joined}
 use Rattle.dcv_lustre.specs.Tree.{Value, Truth, Number, Kind, OfTruth, OfNumber, Item, Constant, Named, Condition, Holds, Equals, Arm, Test, Right}
 use Rattle.dcv_lustre.specs.Tree.{Delayed, Chosen, Tested, Equation, Local, Node}
+use Rattle.dcv_lustre.specs.Meaning.{ok}
+
+abbrev indent : Layout
+indent = Space <> Space
+
+abbrev end : Layout
+end = Word (codes ";") <> Newline
 
 -- ---- right sides
 
@@ -26,44 +34,54 @@ abbrev pub item_text : Item → List ℕ
 item_text (Constant value) = value_text value
 item_text (Named name) = name
 
-abbrev pub condition_text : Condition → List ℕ
-condition_text (Holds name) = name
-condition_text (Equals name number) = name ++ (codes " = " ++ decimal number)
+abbrev pub condition_layout : Condition → Layout
+condition_layout (Holds name) = Word name
+condition_layout (Equals name number) = Word name <+> Word (codes "=") <+> Word (decimal number)
 
-abbrev pub arm_text : Arm → List ℕ
-arm_text arm = codes "if " ++ (condition_text arm.condition ++ (codes " then " ++ (item_text arm.item ++ codes " else ")))
+-- and a space after it
+abbrev pub arm_layout : Arm → Layout
+arm_layout arm = Word (codes "if") <+> condition_layout arm.condition <+> Word (codes "then") <+> Word (item_text arm.item) <+> Word (codes "else") <> Space
 
-abbrev pub test_text : Test → List ℕ
-test_text test = codes "(" ++ (test.name ++ (codes " = " ++ (decimal test.number ++ codes ")")))
+abbrev pub test_layout : Test → Layout
+test_layout test = Word (codes "(") <> Word test.name <+> Word (codes "=") <+> Word (decimal test.number) <> Word (codes ")")
 
-abbrev pub right_text : Right → List ℕ
-right_text (Delayed first source) = value_text first ++ (codes " -> pre " ++ source)
-right_text (Chosen arms otherwise) = flat_map arm_text arms ++ item_text otherwise
-right_text (Tested tests) = join_by test_text (codes " or ") tests
+abbrev pub right_layout : Right → Layout
+right_layout (Delayed first source) = Word (value_text first) <+> Word (codes "->") <+> Word (codes "pre") <+> Word source
+right_layout (Chosen arms otherwise) = Each arm_layout arms <> Word (item_text otherwise)
+right_layout (Tested tests) = Joined (Space <> Word (codes "or") <> Space) test_layout tests
 
 -- ---- lines
 
-abbrev pub equation_line : Equation → List ℕ
-equation_line equation = codes "  " ++ (equation.left ++ (codes " = " ++ (right_text equation.right ++ codes ";\n")))
+abbrev pub equation_line : Equation → Layout
+equation_line equation = indent <> Word equation.left <+> Word (codes "=") <+> right_layout equation.right <> end
 
 abbrev pub kind_text : Kind → List ℕ
 kind_text OfTruth = codes "bool"
 kind_text OfNumber = codes "int"
 
-abbrev pub local_line : Local → List ℕ
-local_line local = codes "  " ++ (local.name ++ (codes ": " ++ (kind_text local.kind ++ codes ";\n")))
+abbrev pub local_line : Local → Layout
+local_line local = indent <> Word local.name <> Word (codes ":") <+> Word (kind_text local.kind) <> end
 
-abbrev pub local_lines : List Local → List ℕ
-local_lines [] = []
-local_lines (local ∷ locals) = codes "var\n" ++ flat_map local_line (local ∷ locals)
+abbrev pub local_lines : List Local → Layout
+local_lines [] = Empty
+local_lines (local ∷ locals) = Word (codes "var") <> Newline <> Each local_line (local ∷ locals)
 
-abbrev pub input_text : List ℕ → List ℕ
-input_text name = name ++ codes ": bool"
+abbrev pub input_layout : List ℕ → Layout
+input_layout name = Word name <> Word (codes ":") <+> Word (codes "bool")
 
-abbrev pub head_line : Node → List ℕ
-head_line node = codes "node " ++ (node.name ++ (codes "(" ++ (join_by input_text (codes "; ") node.inputs ++ codes ") returns (ok: bool);\n")))
+-- the end of the first line
+abbrev pub output_layout : Layout
+output_layout = Word (codes ")") <+> Word (codes "returns") <+> Word (codes "(") <> input_layout ok <> Word (codes ")") <> end
+
+abbrev pub equation_lines : List Equation → Layout
+equation_lines equations = Word (codes "let") <> Newline <> Each equation_line equations <> Word (codes "tel") <> Newline
 
 -- ---- the node
 
+unfoldable pub layout_of : Node → Layout
+layout_of node =
+    Word (codes "node") <+> Word node.name <> Word (codes "(") <> Joined (Word (codes ";") <> Space) input_layout node.inputs
+    <> output_layout <> local_lines node.locals <> equation_lines node.equations
+
 unfoldable pub text_of : Node → List ℕ
-text_of node = head_line node ++ (local_lines node.locals ++ (codes "let\n" ++ (flat_map equation_line node.equations ++ codes "tel\n")))
+text_of node = text_in (layout_of node)

@@ -1,20 +1,11 @@
 -- Pieces after one another, and lists that are laid out item by item.
---     joined between pieces xs      with something between every two
-use Rattle.std.proofs.Common.{◌≡◌, ℕ, ◌+◌, true, List, [], ◌∷◌, ◌++◌, length, refl, sym, ap, subst, ◌∙◌, arith, append_assoc, length-append}
+--     pieces_are_text layout        the pieces of a layout are its text
+use Rattle.std.proofs.Common.{◌≡◌, ℕ, ◌+◌, true, List, [], ◌∷◌, ◌++◌, length, refl, sym, ap, subst, ◌∙◌, arith, append_assoc, append-nil, length-append}
 use Rattle.std.specs.List.{AllByRecursion, flat_map, join_by}
 use Rattle.dcv_lexer.specs.Lexicon.{Lexicon, is_orderly}
 use Rattle.dcv_observer.specs.Pieces.{Piece, Blank, Text, bytes_in, bytes_of, tokens_at, IsLaidOut}
+use Rattle.dcv_observer.specs.Layouts.{Layout, Empty, Space, Newline, Word, ◌<>◌, Each, Joined, joined, text_in, pieces_in}
 use Rattle.dcv_observer.proofs.LaidOut.{append_laid}
-
-abbrev pub space : Piece
-space = Blank 32
-
-abbrev pub line_end : Piece
-line_end = Blank 10
-
-abbrev pub joined : {X : Type 0} → List Piece → (X → List Piece) → List X → List Piece
-joined between pieces [] = []
-joined between pieces (x ∷ xs) = pieces x ++ flat_map (λ y. between ++ pieces y) xs
 
 -- ---- their bytes
 
@@ -22,19 +13,27 @@ pub bytes_append : (xs ys : List Piece) → bytes_of (xs ++ ys) ≡ bytes_of xs 
 bytes_append [] ys = refl
 bytes_append (x ∷ xs) ys = ap (λ bytes. bytes_in x ++ bytes) (bytes_append xs ys) ∙ sym (append_assoc (bytes_in x) (bytes_of xs) (bytes_of ys))
 
--- of what each of a list is written as
-pub each_in_pieces : {X : Type 0} (pieces : X → List Piece) (text : X → List ℕ) → ((x : X) → bytes_of (pieces x) ≡ text x) → (xs : List X)
+each_is_text : {X : Type 0} (pieces : X → List Piece) (text : X → List ℕ) → ((x : X) → bytes_of (pieces x) ≡ text x) → (xs : List X)
     → bytes_of (flat_map pieces xs) ≡ flat_map text xs
-each_in_pieces pieces text one [] = refl
-each_in_pieces pieces text one (x ∷ xs) = bytes_append (pieces x) (flat_map pieces xs) ∙ (λ i. one x i ++ each_in_pieces pieces text one xs i)
+each_is_text pieces text one [] = refl
+each_is_text pieces text one (x ∷ xs) = bytes_append (pieces x) (flat_map pieces xs) ∙ (λ i. one x i ++ each_is_text pieces text one xs i)
 
-pub joined_in_pieces : {X : Type 0} (between : List Piece) (sep : List ℕ) (pieces : X → List Piece) (text : X → List ℕ) → bytes_of between ≡ sep
-    → ((x : X) → bytes_of (pieces x) ≡ text x)
-    → (xs : List X) → bytes_of (joined between pieces xs) ≡ join_by text sep xs
-joined_in_pieces between sep pieces text same one [] = refl
-joined_in_pieces between sep pieces text same one (x ∷ xs) =
+joined_is_text : {X : Type 0} (between : List Piece) (separator : List ℕ) (pieces : X → List Piece) (text : X → List ℕ) → bytes_of between ≡ separator
+    → ((x : X) → bytes_of (pieces x) ≡ text x) → (xs : List X) → bytes_of (joined between pieces xs) ≡ join_by text separator xs
+joined_is_text between separator pieces text same one [] = refl
+joined_is_text between separator pieces text same one (x ∷ xs) =
     bytes_append (pieces x) _
-    ∙ (λ i. one x i ++ each_in_pieces (λ y. between ++ pieces y) (λ y. sep ++ text y) (λ y. bytes_append between (pieces y) ∙ (λ j. same j ++ one y j)) xs i)
+    ∙ (λ i. one x i ++ each_is_text (λ y. between ++ pieces y) (λ y. separator ++ text y) (λ y. bytes_append between (pieces y) ∙ (λ j. same j ++ one y j)) xs i)
+
+pub pieces_are_text : (layout : Layout) → bytes_of (pieces_in layout) ≡ text_in layout
+pieces_are_text Empty = refl
+pieces_are_text Space = refl
+pieces_are_text Newline = refl
+pieces_are_text (Word bytes) = append-nil bytes
+pieces_are_text (first <> second) = bytes_append (pieces_in first) (pieces_in second) ∙ (λ i. pieces_are_text first i ++ pieces_are_text second i)
+pieces_are_text (Each layout xs) = each_is_text (λ x. pieces_in (layout x)) (λ x. text_in (layout x)) (λ x. pieces_are_text (layout x)) xs
+pieces_are_text (Joined between layout xs) =
+    joined_is_text (pieces_in between) (text_in between) (λ x. pieces_in (layout x)) (λ x. text_in (layout x)) (pieces_are_text between) (λ x. pieces_are_text (layout x)) xs
 
 -- ---- their tokens
 

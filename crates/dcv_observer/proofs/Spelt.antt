@@ -9,9 +9,10 @@ use Rattle.dcv_lexer.specs.Lexicon.{is_orderly}
 use Rattle.dcv_lexer.specs.Cuts.{Token}
 use Rattle.dcv_observer.specs.Items.{HasItems, token_class}
 use Rattle.dcv_observer.specs.Pieces.{Piece, bytes_of, tokens_at, IsLaidOut}
+use Rattle.dcv_observer.specs.Layouts.{Layout, text_in, pieces_in}
 use Rattle.dcv_observer.specs.Scheme.{Scheme, parts_of_token, parts_of, StandsFor}
 use Rattle.dcv_observer.proofs.LaidOut.{laid_out}
-use Rattle.dcv_observer.proofs.PieceLists.{tokens_append}
+use Rattle.dcv_observer.proofs.PieceLists.{tokens_append, pieces_are_text}
 
 abbrev Trees : {Part : Type 0} → Scheme Part → List Symbol → Nodes Token → Type 0
 Trees scheme symbols nodes = AreTrees scheme.grammar (token_class scheme.lexicon) symbols nodes
@@ -93,12 +94,13 @@ module _ {Part : Type 0} {scheme : Scheme Part} where
       subst (λ tokens. Spelt scheme (first ++ others) tokens (parts ++ rest)) (sym (tokens_append xs ys start)) (then s t)
 
   -- a text that is laid out stands for what its tokens are spelt as
-  pub laid_stands : is_orderly scheme.lexicon ≡ true → (pieces : List Piece) (next : ℕ) → IsLaidOut scheme.lexicon pieces next
-      → (part : Part) → Spelt scheme (Rule scheme.grammar.start ∷ []) (tokens_at 0 pieces) (part ∷ []) → (text : List ℕ) → bytes_of pieces ≡ text → StandsFor scheme text part
-  laid_stands orderly pieces next laid part s text same =
+  pub laid_stands : is_orderly scheme.lexicon ≡ true → (layout : Layout) (next : ℕ) → IsLaidOut scheme.lexicon (pieces_in layout) next
+      → (part : Part) → Spelt scheme (Rule scheme.grammar.start ∷ []) (tokens_at 0 (pieces_in layout)) (part ∷ []) → StandsFor scheme (text_in layout) part
+  laid_stands orderly layout next laid part s =
       record {
-        items = tokens_at 0 pieces;
-        has = subst (λ (text : List ℕ). HasItems scheme.lexicon text (tokens_at 0 pieces)) same (laid_out scheme.lexicon orderly pieces next laid);
+        items = tokens_at 0 (pieces_in layout);
+        has = subst (λ (text : List ℕ). HasItems scheme.lexicon text (tokens_at 0 (pieces_in layout))) (pieces_are_text layout)
+            (laid_out scheme.lexicon orderly (pieces_in layout) next laid);
         tree = s.nodes;
         is = record { derived = s.are; whole = s.whole };
         stands = s.is;

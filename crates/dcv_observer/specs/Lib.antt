@@ -4,6 +4,7 @@
 pub mod Classes
 pub mod Items
 pub mod Pieces
+pub mod Layouts
 pub mod Conditions
 pub mod Naming
 pub mod Scheme
