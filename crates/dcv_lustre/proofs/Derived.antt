@@ -2,7 +2,7 @@
 use Rattle.std.proofs.Common.{◌≡◌, ℕ, ◌+◌, true, false, cond, ◌||◌, ◌⊎◌, nat_eq, List, [], ◌∷◌, ◌++◌, Option, Some, None, length, map}
 use Rattle.std.proofs.Common.{inl, inr, refl, sym, ap, subst, ◌∙◌, arith, append_assoc, codes, decimal}
 use Rattle.std.specs.Prelude.{bytes_eq}
-use Rattle.std.specs.List.{AllByRecursion, flat_map}
+use Rattle.std.specs.List.{AllByRecursion}
 use Rattle.std.proofs.lemmas.Bool.{and_parts, or_left, or_from, false≢true, or_cases, false_from_ne_true, eqb-true}
 use Rattle.std.proofs.lemmas.Slice.Eq.{bytes_eq-Decides}
 use Rattle.dcv_grammar.specs.declared.grammar.Symbol.{Symbol}
@@ -11,27 +11,45 @@ use Rattle.dcv_lexer.specs.Lexicon.{is_number}
 use Rattle.dcv_lexer.specs.Cuts.{Token}
 use Rattle.dcv_lexer.specs.Decimal.{value_of}
 use Rattle.dcv_observer.specs.Classes.{name as plain_name, number, is_short_word, class_of}
-use Rattle.dcv_observer.specs.Pieces.{Piece, Blank, Text, bytes_of, tokens_at}
-use Rattle.dcv_observer.proofs.Spelt.{Spelt as SpeltBy, none, by_token, by_rule, then, in_turn}
+use Rattle.dcv_observer.specs.Pieces.{bytes_of, tokens_at}
+use Rattle.dcv_observer.specs.Layouts.{Layout, ◌<>◌, Each, Word}
+use Rattle.dcv_observer.proofs.Spelt.{Spelt as SpeltBy, none, by_token, by_rule, then, in_turn as pieces_in_turn}
 use Rattle.dcv_observer.proofs.PieceLists.{tokens_append}
 use Rattle.dcv_observer.proofs.Words.{word_is_no_number, decimal_is, value_of_decimal, number_class as class_of_decimal}
 use Rattle.dcv_lustre.specs.Classes.{lexicon, word_ok, word_if, word_then, word_else}
 use Rattle.dcv_lustre.specs.Tree.{Value, Truth, Number, Item, Constant, Named, Condition, Holds, Equals, Arm, Test, Right, Delayed, Chosen, Tested}
-use Rattle.dcv_lustre.specs.Placed.{is_true_word, value_at, is_constant, item_at, condition_of, arm_of, test_of, right_of, PlacedRight, PlacedDelayed}
-use Rattle.dcv_lustre.specs.Placed.{PlacedChosen, PlacedTested, PlacedArm, PlacedTest}
+use Rattle.dcv_lustre.specs.Placed.{is_true_word, value_at, is_constant, item_at, condition_of, arm_of, test_of, right_of, PlacedDelayed}
+use Rattle.dcv_lustre.specs.Placed.{PlacedChosen, PlacedTested, PlacedArm}
 use Rattle.dcv_lustre.specs.Language as rules
 use Rattle.dcv_lustre.specs.Language.{language}
 use Rattle.dcv_lustre.specs.Actions.{Part, scheme, AToken, ARight, Compared, Choice, ATest, Tests}
 use Rattle.dcv_lustre.specs.Form.{IsName, IsNumber, IsValue, IsItem, IsCondition, IsArm, IsTest, IsRight}
-use Rattle.dcv_lustre.specs.Layout.{value_text, item_text}
-use Rattle.dcv_lustre.proofs.NodePieces.{condition_pieces, arm_pieces, test_pieces, right_pieces}
+use Rattle.dcv_lustre.specs.Layout.{pieces_in, value_text, item_text, condition_layout, arm_layout, or_layout, test_layout, right_layout}
 
 -- by the scheme of the subset
 abbrev pub Spelt : List Symbol → List Token → List Part → Type 0
 Spelt symbols tokens parts = SpeltBy scheme symbols tokens parts
 
-abbrev at : ℕ → List ℕ → Token
+abbrev pub at : ℕ → List ℕ → Token
 at start bytes = record { bytes = bytes; start = start }
+
+abbrev pub tokens_in : ℕ → Layout → List Token
+tokens_in start layout = tokens_at start (pieces_in layout)
+
+-- where a layout ends
+abbrev pub after : ℕ → Layout → ℕ
+after start layout = start + length (bytes_of (pieces_in layout))
+
+-- the tokens of a layout are those of a rule that stands for something
+pub record SpeltAs {Placed X : Type 0} (rule : ℕ) (part : Placed → Part) (of : Placed → X) (start : ℕ) (layout : Layout) (x : X) : Type 0 where
+  pub placed : Placed
+  pub is : of placed ≡ x
+  pub spelt : Spelt (Rule rule ∷ []) (tokens_in start layout) (part placed ∷ [])
+
+-- of a layout and what is after it
+pub in_turn : (first second : Layout) (start : ℕ) {symbols others : List Symbol} {parts rest : List Part} → Spelt symbols (tokens_in start first) parts
+    → Spelt others (tokens_in (after start first) second) rest → Spelt (symbols ++ others) (tokens_in start (first <> second)) (parts ++ rest)
+in_turn first second start s t = pieces_in_turn (pieces_in first) (pieces_in second) start s t
 
 -- ---- words and numbers
 
@@ -111,7 +129,7 @@ pub record ConditionSpelt (start : ℕ) (condition : Condition) : Type 0 where
   pub name : Token
   pub number : Option Token
   pub condition_is : condition_of name.bytes number ≡ condition
-  pub spelt : Spelt (Rule rules.condition ∷ []) (tokens_at start (condition_pieces condition)) (Compared name number ∷ [])
+  pub spelt : Spelt (Rule rules.condition ∷ []) (tokens_in start (condition_layout condition)) (Compared name number ∷ [])
 
 condition_spelt : (start : ℕ) (condition : Condition) → IsCondition condition → ConditionSpelt start condition
 unfolding language lexicon
@@ -134,21 +152,20 @@ condition_spelt start (Equals name n) is =
 pub record ArmSpelt (start : ℕ) (arm : Arm) : Type 0 where
   pub placed : PlacedArm
   pub arm_is : arm_of placed ≡ arm
-  pub spelt : Spelt (Class word_if ∷ Rule rules.condition ∷ Class word_then ∷ Rule rules.item ∷ Class word_else ∷ []) (tokens_at start (arm_pieces arm))
+  pub spelt : Spelt (Class word_if ∷ Rule rules.condition ∷ Class word_then ∷ Rule rules.item ∷ Class word_else ∷ []) (tokens_in start (arm_layout arm))
       (Compared placed.name placed.number ∷ AToken placed.item ∷ [])
 
 arm_spelt : (start : ℕ) (arm : Arm) → IsArm arm → ArmSpelt start arm
 unfolding lexicon
 arm_spelt start arm is =
     let c = condition_spelt (start + 2 + 1) arm.condition is.condition in
-    let behind = start + 2 + 1 + length (bytes_of (condition_pieces arm.condition)) in
-    let i = item_spelt (behind + 1 + 4 + 1) arm.item is.item in
-    let item = at (behind + 1 + 4 + 1) (item_text arm.item) in
+    let from = after (start + 2 + 1) (condition_layout arm.condition) + 1 + 4 + 1 in
+    let i = item_spelt from arm.item is.item in
     record {
-      placed = record { name = c.name; number = c.number; item = item };
+      placed = record { name = c.name; number = c.number; item = at from (item_text arm.item) };
       arm_is = λ j. record { condition = c.condition_is j; item = i.item_is j };
       spelt =
-          by_token _ refl (in_turn (condition_pieces arm.condition) _ (start + 2 + 1) c.spelt (by_token _ refl (then i.spelt (by_token _ refl none))));
+          by_token _ refl (pieces_in_turn (pieces_in (condition_layout arm.condition)) _ (start + 2 + 1) c.spelt (by_token _ refl (then i.spelt (by_token _ refl none))));
     }
 
 -- ---- choices
@@ -158,13 +175,15 @@ pub record ChoiceSpelt (start : ℕ) (arms : List Arm) (otherwise : Item) : Type
   pub last : Token
   pub arms_are : map arm_of placed ≡ arms
   pub last_is : item_at last ≡ otherwise
-  pub spelt : Spelt (Rule rules.choice ∷ []) (tokens_at start (flat_map arm_pieces arms ++ Text (item_text otherwise) ∷ [])) (Choice placed last ∷ [])
+  pub spelt : Spelt (Rule rules.choice ∷ []) (tokens_in start (right_layout (Chosen arms otherwise))) (Choice placed last ∷ [])
 
 -- the tokens of an arm and what is after it
-arm_first : (start : ℕ) (arm : Arm) (arms : List Arm) (last : List Piece)
-    → tokens_at start (flat_map arm_pieces (arm ∷ arms) ++ last) ≡ tokens_at start (arm_pieces arm) ++ tokens_at (start + length (bytes_of (arm_pieces arm))) (flat_map arm_pieces arms ++ last)
-arm_first start arm arms last =
-    ap (tokens_at start) (append_assoc (arm_pieces arm) (flat_map arm_pieces arms) last) ∙ tokens_append (arm_pieces arm) (flat_map arm_pieces arms ++ last) start
+arm_first : (start : ℕ) (arm : Arm) (arms : List Arm) (otherwise : Item)
+    → tokens_in start (right_layout (Chosen (arm ∷ arms) otherwise))
+    ≡ tokens_in start (arm_layout arm) ++ tokens_in (after start (arm_layout arm)) (right_layout (Chosen arms otherwise))
+arm_first start arm arms otherwise =
+    ap (tokens_at start) (append_assoc (pieces_in (arm_layout arm)) (pieces_in (Each arm_layout arms)) (pieces_in (Word (item_text otherwise))))
+    ∙ tokens_append (pieces_in (arm_layout arm)) (pieces_in (right_layout (Chosen arms otherwise))) start
 
 choice_spelt : (arms : List Arm) (start : ℕ) (otherwise : Item) → AllByRecursion IsArm arms → IsItem otherwise → ChoiceSpelt start arms otherwise
 unfolding language
@@ -173,7 +192,7 @@ choice_spelt [] start otherwise are is =
     record { placed = []; last = at start (item_text otherwise); arms_are = refl; last_is = i.item_is; spelt = by_rule rules.choice (0, omega arith, refl) i.spelt }
 choice_spelt (arm ∷ arms) start otherwise are is =
     let a = arm_spelt start arm are.0 in
-    let more = choice_spelt arms (start + length (bytes_of (arm_pieces arm))) otherwise are.1 is in
+    let more = choice_spelt arms (after start (arm_layout arm)) otherwise are.1 is in
     record {
       placed = a.placed ∷ more.placed;
       last = more.last;
@@ -181,66 +200,52 @@ choice_spelt (arm ∷ arms) start otherwise are is =
       last_is = more.last_is;
       spelt =
           subst (λ tokens. Spelt (Rule rules.choice ∷ []) tokens (Choice (a.placed ∷ more.placed) more.last ∷ []))
-          (sym (arm_first start arm arms (Text (item_text otherwise) ∷ [])))
+          (sym (arm_first start arm arms otherwise))
           (by_rule rules.choice (1, omega arith, refl) (then a.spelt more.spelt));
     }
 
 -- ---- tests
 
-pub record TestSpelt (start : ℕ) (test : Test) : Type 0 where
-  pub placed : PlacedTest
-  pub test_is : test_of placed ≡ test
-  pub spelt : Spelt (Rule rules.test ∷ []) (tokens_at start (test_pieces test)) (ATest placed ∷ [])
-
-test_spelt : (start : ℕ) (test : Test) → IsTest test → TestSpelt start test
+test_spelt : (start : ℕ) (test : Test) → IsTest test → SpeltAs rules.test ATest test_of start (test_layout test) test
 unfolding language lexicon
 test_spelt start test is =
     let name = at (start + 1) test.name in
     let number = at (start + 1 + length test.name + 1 + 1 + 1) (decimal test.number) in
     record {
       placed = record { name = name; number = number };
-      test_is = ap (λ n. record { name = test.name; number = n }) (value_of_decimal test.number (omega (arith, is.number)));
+      is = ap (λ n. record { name = test.name; number = n }) (value_of_decimal test.number (omega (arith, is.number)));
       spelt = by_rule rules.test (0, omega arith, refl) (by_token _ refl (then (name_spelt (start + 1) test.name is.name) (by_token _ refl
           (by_token number (number_class test.number is.number) (by_token _ refl none)))));
     }
 
-abbrev or_test : Test → List Piece
-or_test test = Blank 32 ∷ Text (codes "or") ∷ Blank 32 ∷ test_pieces test
+abbrev or_test : Test → Layout
+or_test test = or_layout <> test_layout test
 
-pub record TestsSpelt (start : ℕ) (tests : List Test) : Type 0 where
-  pub placed : List PlacedTest
-  pub tests_are : map test_of placed ≡ tests
-  pub spelt : Spelt (Rule rules.more_tests ∷ []) (tokens_at start (flat_map or_test tests)) (Tests placed ∷ [])
-
-more_tests_spelt : (tests : List Test) (start : ℕ) → AllByRecursion IsTest tests → TestsSpelt start tests
+more_tests_spelt : (tests : List Test) (start : ℕ) → AllByRecursion IsTest tests
+    → SpeltAs rules.more_tests Tests (map test_of) start (Each or_test tests) tests
 unfolding language lexicon
-more_tests_spelt [] start are = record { placed = []; tests_are = refl; spelt = by_rule rules.more_tests (0, omega arith, refl) none }
+more_tests_spelt [] start are = record { placed = []; is = refl; spelt = by_rule rules.more_tests (0, omega arith, refl) none }
 more_tests_spelt (test ∷ tests) start are =
     let first = start + 1 + 2 + 1 in
     let t = test_spelt first test are.0 in
-    let more = more_tests_spelt tests (first + length (bytes_of (test_pieces test))) are.1 in
+    let more = more_tests_spelt tests (after first (test_layout test)) are.1 in
     record {
       placed = t.placed ∷ more.placed;
-      tests_are = λ i. t.test_is i ∷ more.tests_are i;
+      is = λ i. t.is i ∷ more.is i;
       spelt =
-          by_rule rules.more_tests (1, omega arith, refl) (by_token (at (start + 1) (codes "or")) refl (in_turn (test_pieces test) (flat_map or_test tests) first t.spelt more.spelt));
+          by_rule rules.more_tests (1, omega arith, refl) (by_token _ refl (in_turn (test_layout test) (Each or_test tests) first t.spelt more.spelt));
     }
 
 -- ---- right sides
 
-pub record RightSpelt (start : ℕ) (right : Right) : Type 0 where
-  pub placed : PlacedRight
-  pub right_is : right_of placed ≡ right
-  pub spelt : Spelt (Rule rules.right ∷ []) (tokens_at start (right_pieces right)) (ARight placed ∷ [])
-
-pub right_spelt : (start : ℕ) (right : Right) → IsRight right → RightSpelt start right
+pub right_spelt : (start : ℕ) (right : Right) → IsRight right → SpeltAs rules.right ARight right_of start (right_layout right) right
 unfolding language lexicon
 right_spelt start (Delayed first source) is =
     let v = value_spelt start first is.0 in
     let behind = start + length (value_text first) + 1 + 2 + 1 + 3 + 1 in
     record {
       placed = PlacedDelayed (at start (value_text first)) (at behind source);
-      right_is = ap (λ value. Delayed value source) v.value_is;
+      is = ap (λ value. Delayed value source) v.value_is;
       spelt = by_rule rules.right (1, omega arith, refl) (then v.spelt (by_rule rules.delay (1, omega arith, refl) (by_token _ refl (by_token _ refl (name_spelt behind source is.1)))));
     }
 right_spelt start (Chosen [] (Constant value)) is =
@@ -248,34 +253,33 @@ right_spelt start (Chosen [] (Constant value)) is =
     let i = item_spelt start (Constant value) is.1 in
     record {
       placed = PlacedChosen [] (at start (value_text value));
-      right_is = ap (Chosen []) i.item_is;
+      is = ap (Chosen []) i.item_is;
       spelt = by_rule rules.right (1, omega arith, refl) (then v.spelt (by_rule rules.delay (0, omega arith, refl) none));
     }
 right_spelt start (Chosen [] (Named name)) is =
     let i = item_spelt start (Named name) is.1 in
     record {
       placed = PlacedChosen [] (at start name);
-      right_is = ap (Chosen []) i.item_is;
+      is = ap (Chosen []) i.item_is;
       spelt = by_rule rules.right (0, omega arith, refl) (name_spelt start name is.1);
     }
 right_spelt start (Chosen (arm ∷ arms) otherwise) is =
     let a = arm_spelt start arm is.0.0 in
-    let more = choice_spelt arms (start + length (bytes_of (arm_pieces arm))) otherwise is.0.1 is.1 in
+    let more = choice_spelt arms (after start (arm_layout arm)) otherwise is.0.1 is.1 in
     record {
       placed = PlacedChosen (a.placed ∷ more.placed) more.last;
-      right_is = λ i. Chosen (a.arm_is i ∷ more.arms_are i) (more.last_is i);
+      is = λ i. Chosen (a.arm_is i ∷ more.arms_are i) (more.last_is i);
       spelt =
           subst (λ tokens. Spelt (Rule rules.right ∷ []) tokens (ARight (PlacedChosen (a.placed ∷ more.placed) more.last) ∷ []))
-          (sym (arm_first start arm arms (Text (item_text otherwise) ∷ [])))
+          (sym (arm_first start arm arms otherwise))
           (by_rule rules.right (2, omega arith, refl) (then a.spelt more.spelt));
     }
 right_spelt start (Tested []) is = absurd (omega (arith, is.0))
 right_spelt start (Tested (test ∷ tests)) is =
     let t = test_spelt start test is.1.0 in
-    let more = more_tests_spelt tests (start + length (bytes_of (test_pieces test))) is.1.1 in
+    let more = more_tests_spelt tests (after start (test_layout test)) is.1.1 in
     record {
       placed = PlacedTested (t.placed ∷ more.placed);
-      right_is = λ i. Tested (t.test_is i ∷ more.tests_are i);
-      spelt =
-          by_rule rules.right (3, omega arith, refl) (in_turn (test_pieces test) (flat_map or_test tests) start t.spelt more.spelt);
+      is = λ i. Tested (t.is i ∷ more.is i);
+      spelt = by_rule rules.right (3, omega arith, refl) (in_turn (test_layout test) (Each or_test tests) start t.spelt more.spelt);
     }

@@ -10,7 +10,6 @@ pub mod ObserverAccepts
 pub mod ObserverNames
 pub mod ObserverRules
 pub mod ObserverLaws
-pub mod NodePieces
 pub mod LaidOut
 pub mod Derived
 pub mod DerivedNodes

@@ -21,7 +21,7 @@ use Rattle.dcv_lustre.specs.Meaning.{ok}
 abbrev indent : Layout
 indent = Space <> Space
 
-abbrev end : Layout
+abbrev pub end : Layout
 end = Word (codes ";") <> Newline
 
 -- ---- right sides
@@ -43,12 +43,15 @@ abbrev pub arm_layout : Arm → Layout
 arm_layout arm = Word (codes "if") <+> condition_layout arm.condition <+> Word (codes "then") <+> Word (item_text arm.item) <+> Word (codes "else") <> Space
 
 abbrev pub test_layout : Test → Layout
-test_layout test = Word (codes "(") <> Word test.name <+> Word (codes "=") <+> Word (decimal test.number) <> Word (codes ")")
+test_layout test = Word (codes "(") <> condition_layout (Equals test.name test.number) <> Word (codes ")")
+
+abbrev pub or_layout : Layout
+or_layout = Space <> Word (codes "or") <> Space
 
 abbrev pub right_layout : Right → Layout
 right_layout (Delayed first source) = Word (value_text first) <+> Word (codes "->") <+> Word (codes "pre") <+> Word source
 right_layout (Chosen arms otherwise) = Each arm_layout arms <> Word (item_text otherwise)
-right_layout (Tested tests) = Joined (Space <> Word (codes "or") <> Space) test_layout tests
+right_layout (Tested tests) = Joined or_layout test_layout tests
 
 -- ---- lines
 
@@ -69,7 +72,16 @@ local_lines (local ∷ locals) = Word (codes "var") <> Newline <> Each local_lin
 abbrev pub input_layout : List ℕ → Layout
 input_layout name = Word name <> Word (codes ":") <+> Word (codes "bool")
 
--- the end of the first line
+abbrev pub between_inputs : Layout
+between_inputs = Word (codes ";") <> Space
+
+abbrev pub inputs_layout : List (List ℕ) → Layout
+inputs_layout names = Joined between_inputs input_layout names
+
+-- the first line, up to its inputs and after them
+abbrev pub opening_layout : List ℕ → Layout
+opening_layout name = Word (codes "node") <+> Word name <> Word (codes "(")
+
 abbrev pub output_layout : Layout
 output_layout = Word (codes ")") <+> Word (codes "returns") <+> Word (codes "(") <> input_layout ok <> Word (codes ")") <> end
 
@@ -78,10 +90,9 @@ equation_lines equations = Word (codes "let") <> Newline <> Each equation_line e
 
 -- ---- the node
 
-unfoldable pub layout_of : Node → Layout
+abbrev pub layout_of : Node → Layout
 layout_of node =
-    Word (codes "node") <+> Word node.name <> Word (codes "(") <> Joined (Word (codes ";") <> Space) input_layout node.inputs
-    <> output_layout <> local_lines node.locals <> equation_lines node.equations
+    opening_layout node.name <> inputs_layout node.inputs <> output_layout <> local_lines node.locals <> equation_lines node.equations
 
 unfoldable pub text_of : Node → List ℕ
 text_of node = text_in (layout_of node)

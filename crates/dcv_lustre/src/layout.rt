@@ -1,16 +1,20 @@
 // The text of a node.
 ghost use Rattle.std.specs.Prelude.{◌≡◌, ◌++◌, ℕ, List, codes, decimal, map, IfOk};
-ghost use Rattle.std.specs.List.{flat_map, join_by};
 ghost use Rattle.dcv_io.specs.Putting.{Puts};
+ghost use Rattle.dcv_observer.specs.Layouts.{Word, ◌<>◌, ◌<+>◌, Each, text_in};
 ghost use Rattle.dcv_lustre.specs.Seen.{name_at, seen_value, seen_kind, seen_item, seen_condition, seen_arm, seen_test, seen_right, seen_equation, seen_local};
-ghost use Rattle.dcv_lustre.specs.Tree.{Truth};
+ghost use Rattle.dcv_lustre.specs.Tree.{Truth, Equals, Delayed, Tested};
 ghost use Rattle.dcv_lustre.specs.Placed.{PlacedNode, node_of};
 ghost use Rattle.dcv_lustre.specs.Actions.{Spells};
-ghost use Rattle.dcv_lustre.specs.Layout.{value_text, item_text, condition_text, arm_text, test_text, right_text, equation_line};
-ghost use Rattle.dcv_lustre.specs.Layout.{kind_text, local_line, local_lines, input_text, head_line, text_of};
+ghost use Rattle.dcv_lustre.specs.Layout.{value_text, item_text, condition_layout, arm_layout, test_layout, right_layout, equation_line};
+ghost use Rattle.dcv_lustre.specs.Layout.{kind_text, end, local_line, local_lines, input_layout, inputs_layout, opening_layout, text_of};
 
 use crate::laws::texts_spell_nodes;
 use crate::node::{Arm, Equation, Item, Kind, Local, Node, Right, Value};
+use crate::words::{
+    ARROW_PRE, CLOSE, ELSE, END, FALSE, IF, INDENT, INPUT_END, IS, LET, NEXT_INPUT, NODE,
+    NUMBER_END, OPEN, OR, OUTPUT, TEL, THEN, TRUE, TRUTH_END, VAR,
+};
 use dcv_io::{Target, Text as TextInMemory, put_pieces};
 use dcv_observer::{Condition, Test};
 use dcv_syntax::Text;
@@ -38,11 +42,13 @@ fn put<T: Target>(node: &Node, target: &mut T)
         inputs: node.inputs(),
         locals: node.locals(),
     };
-    put_head(target, node);
+    put_opening(target, node.name());
+    put_inputs(target, node.inputs());
+    target.put(OUTPUT);
     put_locals(target, node.locals());
-    target.put(b"let\n");
+    target.put(LET);
     put_equations(target, &names, node.equations());
-    target.put(b"tel\n");
+    target.put(TEL);
 }
 
 // The names of a node, by their places.
@@ -91,79 +97,65 @@ fn put_name<T: Target>(target: &mut T, names: &Names<'_>, place: u32)
     target.put(names.at(place));
 }
 
-// The line before those of the locals.
-fn put_head<T: Target>(target: &mut T, node: &Node)
-    ensures { Puts (T.standing target.old) (T.standing target.new) (head_line node.now) }
+// The first line up to its inputs.
+pub(crate) fn put_opening<T: Target>(target: &mut T, name: &[u8])
+    ensures { Puts (T.standing target.old) (T.standing target.new) (text_in (opening_layout name.now)) }
 {
-    put_opening(target, node.name());
-    put_inputs(target, node.inputs());
-    target.put(b") returns (ok: bool);\n");
+    put_pieces(target, &[NODE, name, OPEN]);
 }
 
-// The line up to its inputs.
-fn put_opening<T: Target>(target: &mut T, name: &[u8])
-    ensures { Puts (T.standing target.old) (T.standing target.new) (codes "node " ++ (name.now ++ codes "(")) }
-{
-    put_pieces(target, &[b"node ", name, b"("]);
-}
-
-// The inputs, with something between every two.
 fn put_inputs<T: Target>(target: &mut T, inputs: &[Text])
-    ensures { Puts (T.standing target.old) (T.standing target.new) (join_by input_text (codes "; ") inputs.now) }
+    ensures { Puts (T.standing target.old) (T.standing target.new) (text_in (inputs_layout inputs.now)) }
 {
     let Some((first, others)) = inputs.split_first() else {
         return;
     };
     put_input(target, b"", first.as_bytes());
     for input in others {
-        put_input(target, b"; ", input.as_bytes());
+        put_input(target, NEXT_INPUT, input.as_bytes());
     }
 }
 
 // An input, after what stands between it and the one before.
 fn put_input<T: Target>(target: &mut T, between: &[u8], name: &[u8])
-    ensures { Puts (T.standing target.old) (T.standing target.new) (between.now ++ input_text name.now) }
+    ensures { Puts (T.standing target.old) (T.standing target.new) (between.now ++ text_in (input_layout name.now)) }
 {
-    put_pieces(target, &[between, name, b": bool"]);
+    put_pieces(target, &[between, name, INPUT_END]);
 }
 
-// The lines of the locals, where there are any.
 fn put_locals<T: Target>(target: &mut T, locals: &[Local])
-    ensures { Puts (T.standing target.old) (T.standing target.new) (local_lines (map seen_local locals.now)) }
+    ensures { Puts (T.standing target.old) (T.standing target.new) (text_in (local_lines (map seen_local locals.now))) }
 {
     if locals.is_empty() {
         return;
     }
-    target.put(b"var\n");
+    target.put(VAR);
     for local in locals {
         put_local(target, local);
     }
 }
 
 fn put_local<T: Target>(target: &mut T, local: &Local)
-    ensures { Puts (T.standing target.old) (T.standing target.new) (local_line (seen_local local.now)) }
+    ensures { Puts (T.standing target.old) (T.standing target.new) (text_in (local_line (seen_local local.now))) }
 {
-    put_words(target, local.name.as_bytes(), kind_word(local.kind));
+    put_pieces(
+        target,
+        &[INDENT, local.name.as_bytes(), kind_end(local.kind)],
+    );
 }
 
-fn put_words<T: Target>(target: &mut T, name: &[u8], kind: &[u8])
-    ensures { Puts (T.standing target.old) (T.standing target.new) (codes "  " ++ (name.now ++ (codes ": " ++ (kind.now ++ codes ";\n")))) }
-{
-    put_pieces(target, &[b"  ", name, b": ", kind, b";\n"]);
-}
-
-fn kind_word(kind: Kind) -> &'static [u8]
-    ensures { result.now ≡ kind_text (seen_kind kind) }
+// What stands after the name of a local.
+fn kind_end<'a>(kind: Kind) -> &'a [u8]
+    ensures { result.now ≡ text_in (Word (codes ":") <+> Word (kind_text (seen_kind kind)) <> end) }
 {
     match kind {
-        Kind::OfTruth => b"bool",
-        Kind::OfNumber => b"int",
+        Kind::OfTruth => TRUTH_END,
+        Kind::OfNumber => NUMBER_END,
     }
 }
 
-// The lines of the equations.
 fn put_equations<T: Target>(target: &mut T, names: &Names<'_>, equations: &[Equation])
-    ensures { Puts (T.standing target.old) (T.standing target.new) (flat_map equation_line (map (seen_equation names.now) equations.now)) }
+    ensures { Puts (T.standing target.old) (T.standing target.new) (text_in (Each equation_line (map (seen_equation names.now) equations.now))) }
 {
     for equation in equations {
         put_equation(target, names, equation);
@@ -171,24 +163,17 @@ fn put_equations<T: Target>(target: &mut T, names: &Names<'_>, equations: &[Equa
 }
 
 fn put_equation<T: Target>(target: &mut T, names: &Names<'_>, equation: &Equation)
-    ensures { Puts (T.standing target.old) (T.standing target.new) (equation_line (seen_equation names.now equation.now)) }
+    ensures { Puts (T.standing target.old) (T.standing target.new) (text_in (equation_line (seen_equation names.now equation.now))) }
 {
-    put_left(target, names, equation.left);
+    target.put(INDENT);
+    put_name(target, names, equation.left);
+    target.put(IS);
     put_right(target, names, &equation.right);
-    target.put(b";\n");
-}
-
-// An equation up to its right side.
-fn put_left<T: Target>(target: &mut T, names: &Names<'_>, left: u32)
-    ensures { Puts (T.standing target.old) (T.standing target.new) (codes "  " ++ (name_at names.now left ++ codes " = ")) }
-{
-    target.put(b"  ");
-    put_name(target, names, left);
-    target.put(b" = ");
+    target.put(END);
 }
 
 fn put_right<T: Target>(target: &mut T, names: &Names<'_>, right: &Right)
-    ensures { Puts (T.standing target.old) (T.standing target.new) (right_text (seen_right names.now right.now)) }
+    ensures { Puts (T.standing target.old) (T.standing target.new) (text_in (right_layout (seen_right names.now right.now))) }
 {
     match right {
         Right::Delayed(first, source) => put_delayed(target, names, *first, *source),
@@ -200,36 +185,34 @@ fn put_right<T: Target>(target: &mut T, names: &Names<'_>, right: &Right)
     }
 }
 
-// `first -> pre source`.
 fn put_delayed<T: Target>(target: &mut T, names: &Names<'_>, first: Value, source: u32)
-    ensures { Puts (T.standing target.old) (T.standing target.new) (value_text (seen_value first) ++ (codes " -> pre " ++ name_at names.now source)) }
+    ensures { Puts (T.standing target.old) (T.standing target.new) (text_in (right_layout (Delayed (seen_value first) (name_at names.now source)))) }
 {
     put_value(target, first);
-    target.put(b" -> pre ");
+    target.put(ARROW_PRE);
     put_name(target, names, source);
 }
 
 fn put_arms<T: Target>(target: &mut T, names: &Names<'_>, arms: &[Arm])
-    ensures { Puts (T.standing target.old) (T.standing target.new) (flat_map arm_text (map (seen_arm names.now) arms.now)) }
+    ensures { Puts (T.standing target.old) (T.standing target.new) (text_in (Each arm_layout (map (seen_arm names.now) arms.now))) }
 {
     for arm in arms {
         put_arm(target, names, *arm);
     }
 }
 
-// `if condition then item else`.
 fn put_arm<T: Target>(target: &mut T, names: &Names<'_>, arm: Arm)
-    ensures { Puts (T.standing target.old) (T.standing target.new) (arm_text (seen_arm names.now arm)) }
+    ensures { Puts (T.standing target.old) (T.standing target.new) (text_in (arm_layout (seen_arm names.now arm))) }
 {
-    target.put(b"if ");
+    target.put(IF);
     put_condition(target, names, arm.condition);
-    target.put(b" then ");
+    target.put(THEN);
     put_item(target, names, arm.item);
-    target.put(b" else ");
+    target.put(ELSE);
 }
 
 fn put_condition<T: Target>(target: &mut T, names: &Names<'_>, condition: Condition)
-    ensures { Puts (T.standing target.old) (T.standing target.new) (condition_text (seen_condition names.now condition)) }
+    ensures { Puts (T.standing target.old) (T.standing target.new) (text_in (condition_layout (seen_condition names.now condition))) }
 {
     match condition {
         Condition::Holds(name) => put_name(target, names, name),
@@ -237,42 +220,36 @@ fn put_condition<T: Target>(target: &mut T, names: &Names<'_>, condition: Condit
     }
 }
 
-// `name = number`.
 fn put_equal<T: Target>(target: &mut T, names: &Names<'_>, name: u32, number: u16)
-    ensures { Puts (T.standing target.old) (T.standing target.new) (name_at names.now name ++ (codes " = " ++ decimal number)) }
-{
-    put_name(target, names, name);
-    put_compared(target, number);
-}
-
-// ` = number`.
-fn put_compared<T: Target>(target: &mut T, number: u16)
-    ensures { Puts (T.standing target.old) (T.standing target.new) (codes " = " ++ decimal number) }
+    ensures { Puts (T.standing target.old) (T.standing target.new) (text_in (condition_layout (Equals (name_at names.now name) number))) }
 {
     let mut digits = Buffer::new();
-    put_pieces(target, &[b" = ", digits.format(number).as_bytes()]);
+    put_pieces(
+        target,
+        &[names.at(name), IS, digits.format(number).as_bytes()],
+    );
 }
 
-// The tests, with `or` between every two.
 fn put_tests<T: Target>(target: &mut T, names: &Names<'_>, tests: &[Test])
-    ensures { Puts (T.standing target.old) (T.standing target.new) (join_by test_text (codes " or ") (map (seen_test names.now) tests.now)) }
+    ensures { Puts (T.standing target.old) (T.standing target.new) (text_in (right_layout (Tested (map (seen_test names.now) tests.now)))) }
 {
     let Some((first, others)) = tests.split_first() else {
         return;
     };
     put_test(target, b"", names, *first);
     for test in others {
-        put_test(target, b" or ", names, *test);
+        put_test(target, OR, names, *test);
     }
 }
 
-// `(name = number)`, after what stands between it and the test before.
+// A test, after what stands between it and the one before.
 fn put_test<T: Target>(target: &mut T, between: &[u8], names: &Names<'_>, test: Test)
-    ensures { Puts (T.standing target.old) (T.standing target.new) (between.now ++ test_text (seen_test names.now test)) }
+    ensures { Puts (T.standing target.old) (T.standing target.new) (between.now ++ text_in (test_layout (seen_test names.now test))) }
 {
-    put_pieces(target, &[between, b"("]);
+    target.put(between);
+    target.put(OPEN);
     put_equal(target, names, test.name, test.number);
-    target.put(b")");
+    target.put(CLOSE);
 }
 
 fn put_item<T: Target>(target: &mut T, names: &Names<'_>, item: Item)
@@ -296,7 +273,7 @@ fn put_value<T: Target>(target: &mut T, value: Value)
 fn truth_word(truth: bool) -> &'static [u8]
     ensures { result.now ≡ value_text (Truth truth) }
 {
-    if truth { b"true" } else { b"false" }
+    if truth { TRUE } else { FALSE }
 }
 
 fn put_number<T: Target>(target: &mut T, number: u16)

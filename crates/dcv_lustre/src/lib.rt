@@ -32,6 +32,7 @@ pub mod laws;
 mod layout;
 mod node;
 mod straight;
+mod words;
 
 pub use dcv_observer::{Condition, ObsFault, Test};
 pub use layout::text;

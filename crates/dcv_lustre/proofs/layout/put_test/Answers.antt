@@ -1,6 +1,5 @@
-use Rattle.std.proofs.Common.{append_assoc}
-use Rattle.dcv_io.proofs.Putting.{puts_both, puts_same}
+use Rattle.dcv_io.proofs.Putting.{puts_both}
 use Rattle.dcv_lustre.proofs.layout.put_test.Goals as goal
 
 pub returns : goal.returns
-returns g c = puts_same _ _ _ _ (puts_both _ _ _ _ _ c.put_pieces.ensures (puts_both _ _ _ _ _ c.put_equal.ensures c.put.ensures)) (simp append_assoc)
+returns g c = puts_both _ _ _ _ _ c.put.ensures (puts_both _ _ _ _ _ c.put-2.ensures (puts_both _ _ _ _ _ c.put_equal.ensures c.put-3.ensures))

@@ -1,15 +1,14 @@
-use Rattle.std.proofs.Common.{◌<◌, ◌++◌, List, length, map, sym, ap, subst, refl, ◌∙◌, arith, codes}
-use Rattle.std.specs.Fmt.{decimal}
+use Rattle.std.proofs.Common.{◌≡◌, ◌<◌, List, None, length, map, sym, ap, subst, ◌∙◌, arith}
 use Rattle.std.specs.List.{All, enumerate_from}
 use Rattle.dcv_dfa.specs.declared.node_lines.NodeLine.{NodeLine}
-use Rattle.dcv_dfa.specs.NodeLines.{NodeLinesValue}
+use Rattle.dcv_dfa.specs.NodeLines.{node_lines_of}
 use Rattle.dcv_io.proofs.Putting.{puts_both, puts_same}
-use Rattle.dcv_automaton_file.specs.File.{texts_of, node_line, state_lines}
+use Rattle.dcv_automaton_file.specs.File.{texts_of, node_line, state_lines, file_of}
 use Rattle.dcv_automaton_file.proofs.Rows.{are_lined}
-use Rattle.dcv_automaton_file.proofs.PutLines.{lines_seen, numbers_seen}
-use Rattle.dcv_lustre.specs.Layout.{local_line, equation_line}
-use Rattle.dcv_lustre.specs.Observer.{node_local, node_equation}
-use Rattle.dcv_lustre.proofs.ObserverText.{inputs_text, node_is, tests_text, text_is}
+use Rattle.dcv_automaton_file.proofs.PutLines.{lines_seen}
+use Rattle.dcv_lustre.specs.Layout.{text_in, equation_line, text_of}
+use Rattle.dcv_lustre.specs.Observer.{node_equation, observer_of}
+use Rattle.dcv_lustre.proofs.ObserverText.{inputs_text, locals_text, node_is, tests_text, text_is}
 use Rattle.dcv_lustre.proofs.straight.put_observer.Goals as goal
 
 pub overflow_cast-lines : goal.overflow_cast-lines
@@ -29,6 +28,7 @@ put_choice-requires g c =
     omega (arith, ap length c.rows.ensures, is.row_count, c.states-states.ensures.states, c.states-states.ensures.some)
 
 pub returns : goal.returns
+unfolding file_of
 returns g c = λ access suffixes.
     let raw = c.args.auto.now in
     let all = c.args.nodes.now in
@@ -37,13 +37,19 @@ returns g c = λ access suffixes.
     let lines = c.lines-lines.result.now in
     let rows = c.rows.result.now in
     let numbered = map (node_line names) (enumerate_from 0 lines) in
+    let same : record { lines = lines; rows = rows } ≡ node_lines_of raw = (λ i. record { lines = c.lines-lines.ensures i; rows = c.rows.ensures i }) ∙ c.requires.lines in
     puts_same _ _ _ _
-    (puts_both _ _ _ _ _ c.put.ensures (puts_both _ _ _ _ _ c.put_names.ensures (puts_both _ _ _ _ _ c.put-2.ensures (puts_both _ _ _ _ _ c.put_numbers.ensures
-    (puts_both _ _ _ _ _ c.put-3.ensures (puts_both _ _ _ _ _ c.put_nodes.ensures (puts_both _ _ _ _ _ c.put-4.ensures (puts_both _ _ _ _ _ (c.put_choice.ensures raw)
-    (puts_both _ _ _ _ _ c.put-5.ensures (puts_both _ _ _ _ _ (c.put_accepting.ensures rows (ap length c.rows.ensures ∙ is.row_count)) c.put-6.ensures))))))))))
-    (text_is raw names lines rows access suffixes
-    (c.lines-lines.ensures ∙ ap (λ (all : NodeLinesValue). all.lines) c.requires.lines) (c.rows.ensures ∙ ap (λ (all : NodeLinesValue). all.rows) c.requires.lines) _ _ _ _
-    (inputs_text names)
-    (numbers_seen (λ number. codes "  n" ++ (decimal number ++ codes ": int;\n")) names 0 lines ∙ lines_seen _ node_local local_line (λ line. refl) numbered)
-    (lines_seen _ node_equation equation_line node_is numbered)
-    (tests_text (state_lines raw rows)))
+    (puts_both _ _ _ _ _ c.put_opening.ensures (puts_both _ _ _ _ _ (puts_same _ _ _ _ c.put_names.ensures (inputs_text names))
+    (puts_both _ _ _ _ _ c.put_pieces.ensures (puts_both _ _ _ _ _ (puts_same _ _ _ _ c.put_numbers.ensures (locals_text names lines))
+    (puts_both _ _ _ _ _ c.put_pieces-2.ensures (puts_both _ _ _ _ _ (puts_same _ _ _ _ c.put_nodes.ensures (lines_seen _ node_equation (λ equation. text_in (equation_line equation)) node_is numbered))
+    (puts_both _ _ _ _ _ c.put_pieces-3.ensures (puts_both _ _ _ _ _ (c.put_choice.ensures raw)
+    (puts_both _ _ _ _ _ c.put_pieces-4.ensures (puts_both _ _ _ _ _ (puts_same _ _ _ _ (c.put_accepting.ensures rows (ap length c.rows.ensures ∙ is.row_count)) (tests_text (state_lines raw rows))) c.put_pieces-5.ensures))))))))))
+    (text_is _ ∙ (λ i. text_of (observer_of (record {
+      names = names;
+      states = length raw.rows;
+      node_lines = map (node_line names) (enumerate_from 0 (same i).lines);
+      state_lines = state_lines raw (same i).rows;
+      access_lines = access;
+      suffix_lines = suffixes;
+      steps = None;
+    }))))
