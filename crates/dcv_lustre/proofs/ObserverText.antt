@@ -1,6 +1,6 @@
 -- What is put of an automaton, line by line, is the text of its observer.
 use Rattle.std.proofs.Common.{◌≡◌, ℕ, zero, suc, ◌+◌, List, [], ◌∷◌, ◌++◌, length, map, take, get_or, refl, sym, ◌∙◌, arith, codes}
-use Rattle.std.specs.Fmt.{decimal, digits}
+use Rattle.std.specs.Fmt.{decimal}
 use Rattle.std.specs.List.{enumerate_from, filter, flat_map, range_with_len}
 use Rattle.std.proofs.lemmas.List.{append_assoc, append-nil}
 use Rattle.std.proofs.lemmas.Grind.{flat_map-append}
@@ -18,7 +18,7 @@ use Rattle.dcv_lustre.specs.Meaning.{tick}
 use Rattle.dcv_lustre.specs.Layout.{text_in, item_text, or_layout, test_layout, right_layout, equation_line, between_inputs, input_layout, inputs_layout}
 use Rattle.dcv_lustre.specs.Layout.{local_line, text_of}
 use Rattle.dcv_observer.specs.Layouts.{Each}
-use Rattle.dcv_lustre.specs.Observer.{input_name, input_names, item_of, node_equation, row_arms, last_row, state_test, accepting_tests, ok_right, node_local, next_equation, ok_equation, observer_of, number_local, node_name}
+use Rattle.dcv_lustre.specs.Observer.{input_name, input_names, item_of, node_equation, row_arms, last_row, state_test, accepting_tests, ok_right, node_local, next_equation, ok_equation, state_equation, observer_of, number_local, node_name}
 
 child_is : (target : Child) → child_text target ≡ item_text (item_of target)
 child_is (State state) = refl
@@ -75,9 +75,9 @@ tests_text lines = by (filter (λ (line : StateLine). line.accepting) lines)
 
 pub text_is : (file : AutomatonFile)
     → codes "node observer(" ++ (text_in (inputs_layout (input_names file.names)) ++ (codes ") returns (ok: bool);\nvar\n  st: int;\n  nx: int;\n"
-    ++ (text_in (Each local_line (map node_local file.node_lines)) ++ (codes "let\n  st = 0 -> pre nx;\n" ++ (text_in (Each equation_line (map node_equation file.node_lines))
-    ++ (codes "  nx = " ++ (text_in (right_layout (next_equation file.state_lines).right)
-    ++ (codes ";\n  ok = " ++ (text_in (right_layout (ok_equation file.state_lines).right) ++ codes ";\ntel\n")))))))))
+    ++ (text_in (Each local_line (map node_local file.node_lines)) ++ (codes "let\n" ++ (text_in (equation_line state_equation)
+    ++ (text_in (Each equation_line (map node_equation file.node_lines)) ++ (codes "  nx = " ++ (text_in (right_layout (next_equation file.state_lines).right)
+    ++ (codes ";\n  ok = " ++ (text_in (right_layout (ok_equation file.state_lines).right) ++ codes ";\ntel\n"))))))))))
     ≡ text_of (observer_of file)
-unfolding text_of observer_of digits
+unfolding text_of observer_of
 text_is file = simp (flat_map-append (λ (equation : Equation). text_in (equation_line equation)) (map node_equation file.node_lines), append_assoc, append-nil)

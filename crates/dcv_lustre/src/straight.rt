@@ -9,8 +9,9 @@ ghost use Rattle.dcv_automaton_text.specs.Rules.{AreNames};
 ghost use Rattle.dcv_automaton_text.specs.File.{AccessLine, SuffixLine};
 ghost use Rattle.dcv_automaton_file.specs.File.{texts_of, file_of, state_lines};
 ghost use Rattle.dcv_lustre.specs.Tree.{Chosen};
-ghost use Rattle.dcv_lustre.specs.Layout.{text_in, right_layout, text_of};
-ghost use Rattle.dcv_lustre.specs.Observer.{item_of, row_arms, last_row, observer_of};
+ghost use Rattle.dcv_lustre.specs.Layout.{text_in, inputs_layout, right_layout, equation_line, text_of};
+ghost use Rattle.dcv_lustre.specs.Observer.{input_names, state_equation, item_of, row_arms, last_row, ok_equation, observer_of};
+ghost use Rattle.dcv_language.specs.declared.child.Child.{Child as PlainChild};
 
 use crate::layout::put_opening;
 use crate::words::{
@@ -69,24 +70,40 @@ pub fn put_observer<T: Target>(target: &mut T, auto: &Auto, names: &[Name], node
     let _states = auto.states();
     let lines = nodes.lines();
     put_opening(target, b"observer");
-    put_names(target, &INPUTS, names);
-    put_pieces(
-        target,
-        &[
-            OUTPUT, VAR, INDENT, b"st", NUMBER_END, INDENT, b"nx", NUMBER_END,
-        ],
-    );
+    put_inputs(target, names);
+    put_pieces(target, &[OUTPUT, VAR, INDENT, b"st", NUMBER_END]);
+    put_pieces(target, &[INDENT, b"nx", NUMBER_END]);
     put_numbers(target, &[INDENT, b"n"], NUMBER_END, lines.len() as u32);
-    put_pieces(
-        target,
-        &[LET, INDENT, b"st", IS, b"0", ARROW_PRE, b"nx", END],
-    );
+    target.put(LET);
+    put_state(target);
     put_nodes(target, &NODES, names, lines);
     put_pieces(target, &[INDENT, b"nx", IS]);
     put_choice(target, nodes.rows());
     put_pieces(target, &[END, INDENT, b"ok", IS]);
-    put_accepting(target, &ACCEPTING, auto);
+    put_tests(target, auto);
     put_pieces(target, &[END, TEL]);
+}
+
+#[tactic(auto, using(crate::proofs::ObserverText::inputs_text))]
+fn put_inputs<T: Target>(target: &mut T, names: &[Name])
+    ensures { Puts (T.standing target.old) (T.standing target.new) (text_in (inputs_layout (input_names (texts_of names.now)))) }
+{
+    put_names(target, &INPUTS, names);
+}
+
+fn put_state<T: Target>(target: &mut T)
+    ensures { Puts (T.standing target.old) (T.standing target.new) (text_in (equation_line state_equation)) }
+{
+    put_pieces(target, &[INDENT, b"st", IS, b"0", ARROW_PRE, b"nx", END]);
+}
+
+// The right side of `ok`.
+#[tactic(auto, using(crate::proofs::ObserverText::tests_text))]
+fn put_tests<T: Target>(target: &mut T, auto: &Auto)
+    ensures { (rows : List PlainChild) → length rows ≡ length auto.now.rows
+        → Puts (T.standing target.old) (T.standing target.new) (text_in (right_layout (ok_equation (state_lines auto.now rows)).right)) }
+{
+    put_accepting(target, &ACCEPTING, auto);
 }
 
 // The row of the state, with an arm for each but the last.

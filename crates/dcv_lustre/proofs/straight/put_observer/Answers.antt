@@ -8,7 +8,7 @@ use Rattle.dcv_automaton_file.proofs.Rows.{are_lined}
 use Rattle.dcv_automaton_file.proofs.PutLines.{lines_seen}
 use Rattle.dcv_lustre.specs.Layout.{text_in, equation_line, text_of}
 use Rattle.dcv_lustre.specs.Observer.{node_equation, observer_of}
-use Rattle.dcv_lustre.proofs.ObserverText.{inputs_text, locals_text, node_is, tests_text, text_is}
+use Rattle.dcv_lustre.proofs.ObserverText.{locals_text, node_is, text_is}
 use Rattle.dcv_lustre.proofs.straight.put_observer.Goals as goal
 
 pub overflow_cast-lines : goal.overflow_cast-lines
@@ -39,11 +39,11 @@ returns g c = λ access suffixes.
     let numbered = map (node_line names) (enumerate_from 0 lines) in
     let same : record { lines = lines; rows = rows } ≡ node_lines_of raw = (λ i. record { lines = c.lines-lines.ensures i; rows = c.rows.ensures i }) ∙ c.requires.lines in
     puts_same _ _ _ _
-    (puts_both _ _ _ _ _ c.put_opening.ensures (puts_both _ _ _ _ _ (puts_same _ _ _ _ c.put_names.ensures (inputs_text names))
-    (puts_both _ _ _ _ _ c.put_pieces.ensures (puts_both _ _ _ _ _ (puts_same _ _ _ _ c.put_numbers.ensures (locals_text names lines))
-    (puts_both _ _ _ _ _ c.put_pieces-2.ensures (puts_both _ _ _ _ _ (puts_same _ _ _ _ c.put_nodes.ensures (lines_seen _ node_equation (λ equation. text_in (equation_line equation)) node_is numbered))
+    (puts_both _ _ _ _ _ c.put_opening.ensures (puts_both _ _ _ _ _ c.put_inputs.ensures
+    (puts_both _ _ _ _ _ c.put_pieces.ensures (puts_both _ _ _ _ _ c.put_pieces-2.ensures (puts_both _ _ _ _ _ (puts_same _ _ _ _ c.put_numbers.ensures (locals_text names lines))
+    (puts_both _ _ _ _ _ c.put.ensures (puts_both _ _ _ _ _ c.put_state.ensures (puts_both _ _ _ _ _ (puts_same _ _ _ _ c.put_nodes.ensures (lines_seen _ node_equation (λ equation. text_in (equation_line equation)) node_is numbered))
     (puts_both _ _ _ _ _ c.put_pieces-3.ensures (puts_both _ _ _ _ _ (c.put_choice.ensures raw)
-    (puts_both _ _ _ _ _ c.put_pieces-4.ensures (puts_both _ _ _ _ _ (puts_same _ _ _ _ (c.put_accepting.ensures rows (ap length c.rows.ensures ∙ is.row_count)) (tests_text (state_lines raw rows))) c.put_pieces-5.ensures))))))))))
+    (puts_both _ _ _ _ _ c.put_pieces-4.ensures (puts_both _ _ _ _ _ (c.put_tests.ensures rows (ap length c.rows.ensures ∙ is.row_count)) c.put_pieces-5.ensures))))))))))))
     (text_is _ ∙ (λ i. text_of (observer_of (record {
       names = names;
       states = length raw.rows;
