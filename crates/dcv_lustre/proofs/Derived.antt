@@ -13,7 +13,7 @@ use Rattle.dcv_lexer.specs.Decimal.{value_of}
 use Rattle.dcv_observer.specs.Classes.{name as plain_name, number, is_short_word, class_of}
 use Rattle.dcv_observer.specs.Pieces.{bytes_of, tokens_at}
 use Rattle.dcv_observer.specs.Layouts.{Layout, ◌<>◌, Each, Word}
-use Rattle.dcv_observer.proofs.Spelt.{Spelt as SpeltBy, none, by_token, by_rule, then, in_turn as pieces_in_turn}
+use Rattle.dcv_observer.proofs.Spelt.{Spelt as SpeltBy, SpeltAs, at, tokens_in, after, none, by_token, by_rule, then, before, in_turn}
 use Rattle.dcv_observer.proofs.PieceLists.{tokens_append}
 use Rattle.dcv_observer.proofs.Words.{word_is_no_number, decimal_is, value_of_decimal, number_class as class_of_decimal}
 use Rattle.dcv_lustre.specs.Classes.{lexicon, word_ok, word_if, word_then, word_else}
@@ -29,27 +29,6 @@ use Rattle.dcv_lustre.specs.Layout.{pieces_in, value_text, item_text, condition_
 -- by the scheme of the subset
 abbrev pub Spelt : List Symbol → List Token → List Part → Type 0
 Spelt symbols tokens parts = SpeltBy scheme symbols tokens parts
-
-abbrev pub at : ℕ → List ℕ → Token
-at start bytes = record { bytes = bytes; start = start }
-
-abbrev pub tokens_in : ℕ → Layout → List Token
-tokens_in start layout = tokens_at start (pieces_in layout)
-
--- where a layout ends
-abbrev pub after : ℕ → Layout → ℕ
-after start layout = start + length (bytes_of (pieces_in layout))
-
--- the tokens of a layout are those of a rule that stands for something
-pub record SpeltAs {Placed X : Type 0} (rule : ℕ) (part : Placed → Part) (of : Placed → X) (start : ℕ) (layout : Layout) (x : X) : Type 0 where
-  pub placed : Placed
-  pub is : of placed ≡ x
-  pub spelt : Spelt (Rule rule ∷ []) (tokens_in start layout) (part placed ∷ [])
-
--- of a layout and what is after it
-pub in_turn : (first second : Layout) (start : ℕ) {symbols others : List Symbol} {parts rest : List Part} → Spelt symbols (tokens_in start first) parts
-    → Spelt others (tokens_in (after start first) second) rest → Spelt (symbols ++ others) (tokens_in start (first <> second)) (parts ++ rest)
-in_turn first second start s t = pieces_in_turn (pieces_in first) (pieces_in second) start s t
 
 -- ---- words and numbers
 
@@ -165,7 +144,7 @@ arm_spelt start arm is =
       placed = record { name = c.name; number = c.number; item = at from (item_text arm.item) };
       arm_is = λ j. record { condition = c.condition_is j; item = i.item_is j };
       spelt =
-          by_token _ refl (pieces_in_turn (pieces_in (condition_layout arm.condition)) _ (start + 2 + 1) c.spelt (by_token _ refl (then i.spelt (by_token _ refl none))));
+          by_token _ refl (before (condition_layout arm.condition) _ (start + 2 + 1) c.spelt (by_token _ refl (then i.spelt (by_token _ refl none))));
     }
 
 -- ---- choices
@@ -206,7 +185,7 @@ choice_spelt (arm ∷ arms) start otherwise are is =
 
 -- ---- tests
 
-test_spelt : (start : ℕ) (test : Test) → IsTest test → SpeltAs rules.test ATest test_of start (test_layout test) test
+test_spelt : (start : ℕ) (test : Test) → IsTest test → SpeltAs scheme rules.test ATest test_of start (test_layout test) test
 unfolding language lexicon
 test_spelt start test is =
     let name = at (start + 1) test.name in
@@ -222,7 +201,7 @@ abbrev or_test : Test → Layout
 or_test test = or_layout <> test_layout test
 
 more_tests_spelt : (tests : List Test) (start : ℕ) → AllByRecursion IsTest tests
-    → SpeltAs rules.more_tests Tests (map test_of) start (Each or_test tests) tests
+    → SpeltAs scheme rules.more_tests Tests (map test_of) start (Each or_test tests) tests
 unfolding language lexicon
 more_tests_spelt [] start are = record { placed = []; is = refl; spelt = by_rule rules.more_tests (0, omega arith, refl) none }
 more_tests_spelt (test ∷ tests) start are =
@@ -238,7 +217,7 @@ more_tests_spelt (test ∷ tests) start are =
 
 -- ---- right sides
 
-pub right_spelt : (start : ℕ) (right : Right) → IsRight right → SpeltAs rules.right ARight right_of start (right_layout right) right
+pub right_spelt : (start : ℕ) (right : Right) → IsRight right → SpeltAs scheme rules.right ARight right_of start (right_layout right) right
 unfolding language lexicon
 right_spelt start (Delayed first source) is =
     let v = value_spelt start first is.0 in

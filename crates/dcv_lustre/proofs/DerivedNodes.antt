@@ -4,22 +4,22 @@ use Rattle.std.specs.List.{AllByRecursion}
 use Rattle.dcv_grammar.specs.declared.grammar.Symbol.TheVariants.{Class, Rule}
 use Rattle.dcv_lexer.specs.Cuts.{Token}
 use Rattle.dcv_observer.specs.Layouts.{Layout, ◌<>◌, Each}
-use Rattle.dcv_observer.proofs.Spelt.{laid_stands, none, by_token, by_rule, then, in_turn as pieces_in_turn}
+use Rattle.dcv_observer.proofs.Spelt.{SpeltAs, at, tokens_in, after, laid_stands, none, by_token, by_rule, then, before, in_turn}
 use Rattle.dcv_lustre.specs.Classes.{lexicon, word_let, word_tel, close_parenthesis}
 use Rattle.dcv_lustre.specs.Tree.{Kind, OfTruth, OfNumber, Equation, Local, Node}
 use Rattle.dcv_lustre.specs.Placed.{equation_of, local_of, kind_at, bytes_of as token_bytes, node_of, PlacedNode, PlacedEquation}
 use Rattle.dcv_lustre.specs.Language as rules
 use Rattle.dcv_lustre.specs.Language.{language}
-use Rattle.dcv_lustre.specs.Actions.{AToken, Tokens, ALocal, Locals, AnEquation, Equations, ANode, Spells}
+use Rattle.dcv_lustre.specs.Actions.{scheme, AToken, Tokens, ALocal, Locals, AnEquation, Equations, ANode, Spells}
 use Rattle.dcv_lustre.specs.Form.{IsName, IsEquation, IsSpellable}
 use Rattle.dcv_lustre.specs.Layout.{pieces_in, kind_text, right_layout, equation_line, local_line, local_lines, between_inputs, input_layout, inputs_layout, opening_layout}
 use Rattle.dcv_lustre.specs.Layout.{output_layout, equation_lines, layout_of, text_of}
-use Rattle.dcv_lustre.proofs.Derived.{Spelt, SpeltAs, at, tokens_in, after, in_turn, name_spelt, right_spelt}
+use Rattle.dcv_lustre.proofs.Derived.{Spelt, name_spelt, right_spelt}
 use Rattle.dcv_lustre.proofs.LaidOut.{orderly, node_laid}
 
 -- ---- equations
 
-equation_spelt : (start : ℕ) (equation : Equation) → IsEquation equation → SpeltAs rules.equation AnEquation equation_of start (equation_line equation) equation
+equation_spelt : (start : ℕ) (equation : Equation) → IsEquation equation → SpeltAs scheme rules.equation AnEquation equation_of start (equation_line equation) equation
 unfolding language lexicon
 equation_spelt start equation is =
     let left = at (start + 1 + 1) equation.left in
@@ -30,11 +30,11 @@ equation_spelt start equation is =
       is = ap (λ right. record { left = equation.left; right = right }) r.is;
       spelt =
           by_rule rules.equation (0, omega arith, refl) (then (name_spelt (start + 1 + 1) equation.left is.left)
-          (by_token _ refl (pieces_in_turn (pieces_in (right_layout equation.right)) _ from r.spelt (by_token _ refl none))));
+          (by_token _ refl (before (right_layout equation.right) _ from r.spelt (by_token _ refl none))));
     }
 
 equations_spelt : (equations : List Equation) (start : ℕ) → AllByRecursion IsEquation equations
-    → SpeltAs rules.equations Equations (map equation_of) start (Each equation_line equations) equations
+    → SpeltAs scheme rules.equations Equations (map equation_of) start (Each equation_line equations) equations
 unfolding language
 equations_spelt [] start is = record { placed = []; is = refl; spelt = by_rule rules.equations (0, omega arith, refl) none }
 equations_spelt (equation ∷ equations) start is =
@@ -57,7 +57,7 @@ unfolding language lexicon
 kind_spelt start OfTruth = by_rule rules.kind (1, omega arith, refl) (by_token (at start (codes "bool")) refl none)
 kind_spelt start OfNumber = by_rule rules.kind (0, omega arith, refl) (by_token (at start (codes "int")) refl none)
 
-local_spelt : (start : ℕ) (local : Local) → IsName local.name → SpeltAs rules.local ALocal local_of start (local_line local) local
+local_spelt : (start : ℕ) (local : Local) → IsName local.name → SpeltAs scheme rules.local ALocal local_of start (local_line local) local
 unfolding language lexicon
 local_spelt start local is =
     let name = at (start + 1 + 1) local.name in
@@ -69,7 +69,7 @@ local_spelt start local is =
     }
 
 locals_spelt : (locals : List Local) (start : ℕ) → AllByRecursion (λ (local : Local). IsName local.name) locals
-    → SpeltAs rules.locals Locals (map local_of) start (Each local_line locals) locals
+    → SpeltAs scheme rules.locals Locals (map local_of) start (Each local_line locals) locals
 unfolding language
 locals_spelt [] start is = record { placed = []; is = refl; spelt = by_rule rules.locals (0, omega arith, refl) none }
 locals_spelt (local ∷ locals) start is =
@@ -82,7 +82,7 @@ locals_spelt (local ∷ locals) start is =
     }
 
 variables_spelt : (locals : List Local) (start : ℕ) → AllByRecursion (λ (local : Local). IsName local.name) locals
-    → SpeltAs rules.variables Locals (map local_of) start (local_lines locals) locals
+    → SpeltAs scheme rules.variables Locals (map local_of) start (local_lines locals) locals
 unfolding language lexicon
 variables_spelt [] start is = record { placed = []; is = refl; spelt = by_rule rules.variables (0, omega arith, refl) none }
 variables_spelt (local ∷ locals) start is =
@@ -105,7 +105,7 @@ abbrev next_input : List ℕ → Layout
 next_input name = between_inputs <> input_layout name
 
 more_inputs_spelt : (names : List (List ℕ)) (start : ℕ) → AllByRecursion IsName names
-    → SpeltAs rules.more_inputs Tokens token_bytes start (Each next_input names) names
+    → SpeltAs scheme rules.more_inputs Tokens token_bytes start (Each next_input names) names
 unfolding language lexicon
 more_inputs_spelt [] start is = record { placed = []; is = refl; spelt = by_rule rules.more_inputs (0, omega arith, refl) none }
 more_inputs_spelt (name ∷ names) start is =
@@ -138,7 +138,7 @@ unfolding language lexicon
 end_spelt equations start are =
     let e = equations_spelt equations (start + 3 + 1) are in
     let tel = at (after (start + 3 + 1) (Each equation_line equations)) (codes "tel") in
-    (tel, e.placed, e.is, by_token _ refl (pieces_in_turn (pieces_in (Each equation_line equations)) _ (start + 3 + 1) e.spelt (by_token tel refl none)))
+    (tel, e.placed, e.is, by_token _ refl (before (Each equation_line equations) _ (start + 3 + 1) e.spelt (by_token tel refl none)))
 
 module _ (of : Node) (is : IsSpellable of) where
   abbrev rest : Layout
@@ -148,7 +148,7 @@ module _ (of : Node) (is : IsSpellable of) where
   layout_from inputs = opening_layout of.name <> inputs_layout inputs <> rest
 
   node_by_inputs : (names : List (List ℕ)) → of.inputs ≡ names → AllByRecursion IsName names → 0 < length names
-      → SpeltAs rules.node ANode node_of 0 (layout_from names) of
+      → SpeltAs scheme rules.node ANode node_of 0 (layout_from names) of
   unfolding language lexicon
   node_by_inputs [] same are some = absurd (omega (arith, some))
   node_by_inputs (name ∷ names) same are some =

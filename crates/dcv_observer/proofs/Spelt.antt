@@ -1,5 +1,6 @@
 -- Derivations that are put together from those of parts.
 --     Spelt scheme symbols tokens parts      the symbols have derivation trees with these tokens, which stand for these parts
+--     SpeltAs scheme rule part of start layout x     what is laid out there is spelt by a rule, as something that stands for x
 use Rattle.std.proofs.Common.{◌≡◌, ℕ, ◌+◌, true, List, [], ◌∷◌, ◌++◌, length, refl, sym, ap, subst, ◌∙◌, append_assoc, append-nil}
 use Rattle.dcv_grammar.specs.declared.grammar.Symbol.{Symbol}
 use Rattle.dcv_grammar.specs.declared.grammar.Symbol.TheVariants.{Class, Rule}
@@ -9,7 +10,7 @@ use Rattle.dcv_lexer.specs.Lexicon.{is_orderly}
 use Rattle.dcv_lexer.specs.Cuts.{Token}
 use Rattle.dcv_observer.specs.Items.{HasItems, token_class}
 use Rattle.dcv_observer.specs.Pieces.{Piece, bytes_of, tokens_at, IsLaidOut}
-use Rattle.dcv_observer.specs.Layouts.{Layout, text_in, pieces_in}
+use Rattle.dcv_observer.specs.Layouts.{Layout, ◌<>◌, text_in, pieces_in}
 use Rattle.dcv_observer.specs.Scheme.{Scheme, parts_of_token, parts_of, StandsFor}
 use Rattle.dcv_observer.proofs.LaidOut.{laid_out}
 use Rattle.dcv_observer.proofs.PieceLists.{tokens_append, pieces_are_text}
@@ -22,6 +23,22 @@ pub record Spelt {Part : Type 0} (scheme : Scheme Part) (symbols : List Symbol) 
   pub are : Trees scheme symbols nodes
   pub whole : leaves nodes ≡ tokens
   pub is : parts_of scheme nodes ≡ parts
+
+abbrev pub at : ℕ → List ℕ → Token
+at start bytes = record { bytes = bytes; start = start }
+
+abbrev pub tokens_in : ℕ → Layout → List Token
+tokens_in start layout = tokens_at start (pieces_in layout)
+
+-- where a layout ends
+abbrev pub after : ℕ → Layout → ℕ
+after start layout = start + length (bytes_of (pieces_in layout))
+
+-- the tokens of a layout are those of a rule that stands for something
+pub record SpeltAs {Part Placed X : Type 0} (scheme : Scheme Part) (rule : ℕ) (part : Placed → Part) (of : Placed → X) (start : ℕ) (layout : Layout) (x : X) : Type 0 where
+  pub placed : Placed
+  pub is : of placed ≡ x
+  pub spelt : Spelt scheme (Rule rule ∷ []) (tokens_in start layout) (part placed ∷ [])
 
 -- ---- trees after one another
 
@@ -87,19 +104,23 @@ module _ {Part : Type 0} {scheme : Scheme Part} where
         is = join_parts scheme s.nodes t.nodes ∙ (λ i. s.is i ++ t.is i);
       }
 
-  -- the tokens of pieces after one another
-  pub in_turn : (xs ys : List Piece) (start : ℕ) {first others : List Symbol} {parts rest : List Part} → Spelt scheme first (tokens_at start xs) parts
-      → Spelt scheme others (tokens_at (start + length (bytes_of xs)) ys) rest → Spelt scheme (first ++ others) (tokens_at start (xs ++ ys)) (parts ++ rest)
-  in_turn xs ys start {first} {others} {parts} {rest} s t =
-      subst (λ tokens. Spelt scheme (first ++ others) tokens (parts ++ rest)) (sym (tokens_append xs ys start)) (then s t)
+  -- of a layout and the pieces after it
+  pub before : (first : Layout) (others : List Piece) (start : ℕ) {symbols more : List Symbol} {parts rest : List Part} → Spelt scheme symbols (tokens_in start first) parts
+      → Spelt scheme more (tokens_at (after start first) others) rest → Spelt scheme (symbols ++ more) (tokens_at start (pieces_in first ++ others)) (parts ++ rest)
+  before first others start {symbols} {more} {parts} {rest} s t =
+      subst (λ tokens. Spelt scheme (symbols ++ more) tokens (parts ++ rest)) (sym (tokens_append (pieces_in first) others start)) (then s t)
+
+  pub in_turn : (first second : Layout) (start : ℕ) {symbols more : List Symbol} {parts rest : List Part} → Spelt scheme symbols (tokens_in start first) parts
+      → Spelt scheme more (tokens_in (after start first) second) rest → Spelt scheme (symbols ++ more) (tokens_in start (first <> second)) (parts ++ rest)
+  in_turn first second start s t = before first (pieces_in second) start s t
 
   -- a text that is laid out stands for what its tokens are spelt as
   pub laid_stands : is_orderly scheme.lexicon ≡ true → (layout : Layout) (next : ℕ) → IsLaidOut scheme.lexicon (pieces_in layout) next
-      → (part : Part) → Spelt scheme (Rule scheme.grammar.start ∷ []) (tokens_at 0 (pieces_in layout)) (part ∷ []) → StandsFor scheme (text_in layout) part
+      → (part : Part) → Spelt scheme (Rule scheme.grammar.start ∷ []) (tokens_in 0 layout) (part ∷ []) → StandsFor scheme (text_in layout) part
   laid_stands orderly layout next laid part s =
       record {
-        items = tokens_at 0 (pieces_in layout);
-        has = subst (λ (text : List ℕ). HasItems scheme.lexicon text (tokens_at 0 (pieces_in layout))) (pieces_are_text layout)
+        items = tokens_in 0 layout;
+        has = subst (λ (text : List ℕ). HasItems scheme.lexicon text (tokens_in 0 layout)) (pieces_are_text layout)
             (laid_out scheme.lexicon orderly (pieces_in layout) next laid);
         tree = s.nodes;
         is = record { derived = s.are; whole = s.whole };
