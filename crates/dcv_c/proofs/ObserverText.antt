@@ -35,14 +35,14 @@ parameters_are (name ∷ names) =
     listed_names (text_in (declaration (codes "v_"))) [] (text_in between_parameters) (text_in (parameters_layout [])) parameter_name (λ name. text_in (declaration name))
     (λ text. ap (λ text. text_in (declaration (codes "v_" ++ text))) (append-nil text)) name names
 
--- a node's line, one word after another
-abbrev node_put : NodeLine → List ℕ → List ℕ → List ℕ
-node_put line hi lo =
+-- one word after another
+abbrev node_put : NodeLine → List ℕ
+node_put line =
     text_in (Space <> Space <> Word (node_name line.number) <+> Word (codes "=") <+> Word (parameter_name line.name)
-    <+> Word (codes "?") <+> Word hi <+> Word (codes ":") <+> Word lo <> end)
+    <+> Word (codes "?") <+> Word (child_text line.hi) <+> Word (codes ":") <+> Word (child_text line.lo) <> end)
 
-node_is : (line : NodeLine) → node_put line (child_text line.hi) (child_text line.lo) ≡ text_in (statement_line (node_statement line))
-node_is line = (λ i. node_put line (child_is line.hi i) (child_is line.lo i)) ∙ simp append_assoc
+node_is : (line : NodeLine) → node_put line ≡ text_in (statement_line (node_statement line))
+node_is line = simp (append_assoc, child_is)
 
 abbrev state_put : StateLine → List ℕ
 state_put line = text_in (statement_line (When (Equals state_name line.number) next_name (Named (child_text line.row))))
@@ -84,7 +84,7 @@ whole parameters locals statements returned =
 abbrev put_of : RawValue → List (List ℕ) → List CodeLine → List Child → List ℕ
 put_of raw names lines rows =
     whole (parameters_put names) (flat_map (λ number. text_in (local_line (node_name number))) (range_with_len 0 (length lines)))
-    (text_in (set_line next_name (Word (codes "0")) <> Each (λ line. Word (node_put line (child_text line.hi) (child_text line.lo))) (map (node_line names) (enumerate_from 0 lines))
+    (text_in (set_line next_name (Word (codes "0")) <> Each (λ line. Word (node_put line)) (map (node_line names) (enumerate_from 0 lines))
     <> Each (λ line. Word (state_put line)) (state_lines raw rows) <> statement_line last_statement))
     (tests_put (accepting_numbers (state_lines raw rows)))
 
@@ -100,7 +100,7 @@ text_is raw names lines rows access suffixes same all =
     ∙ lines_seen (λ (line : NodeLine). text_in (local_line (node_local line))) node_local (λ name. text_in (local_line name)) (λ line. refl) nodes in
     (λ i. put_of raw names (same i) (all i))
     ∙ (λ i. whole (parameters_are names i) (locals i)
-    (text first_statement ++ (lines_seen (λ (line : NodeLine). node_put line (child_text line.hi) (child_text line.lo)) node_statement text node_is nodes i ++ (lines_seen state_put state_statement text state_is states i ++ text last_statement)))
+    (text first_statement ++ (lines_seen node_put node_statement text node_is nodes i ++ (lines_seen state_put state_statement text state_is states i ++ text last_statement)))
     (tests_are states i))
     ∙ (λ i. whole (text_in (parameters_layout (map parameter_name names))) (text_in (Each local_line (map node_local nodes)))
     (statements_are (map node_statement nodes) (map state_statement states) i) (text_in (returned_layout (returned_for (accepting_tests states)))))

@@ -13,7 +13,7 @@ ghost use Rattle.dcv_c.specs.Observer.{observer_of};
 use crate::layout::{put_local, put_opening, put_set, put_static};
 use crate::words::{
     BECOMES, CHOICE, CLOSING, COMMA, END, IF, INDENT, INT, IS, NEWLINE, OPENING, OR, OTHERWISE,
-    RETURN, SPACE, THEN, VOID,
+    RETURN, SPACE, THEN, VARIABLE, VOID,
 };
 use dcv_automaton_file::{
     Listing, NodeLayout, RowLayout, put_accepting, put_names, put_nodes, put_numbers, put_rows,
@@ -27,8 +27,6 @@ const STATE: &[u8] = b"st";
 const NEXT: &[u8] = b"nx";
 
 const NODE: &[u8] = b"n";
-
-const VARIABLE: &[u8] = b"v_";
 
 const PARAMETERS: Listing<'static> = Listing {
     before: &[INT, SPACE, VARIABLE],

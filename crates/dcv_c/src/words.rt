@@ -1,4 +1,4 @@
-// What both writers put of C: its words and symbols, with the spaces and the ends of lines about them.
+// What is put of C: its words and symbols, with the spaces and the ends of lines about them.
 
 pub(crate) const INDENT: &[u8] = b"  ";
 
@@ -35,3 +35,6 @@ pub(crate) const BECOMES: &[u8] = b" = ";
 pub(crate) const CHOICE: &[u8] = b" ? ";
 
 pub(crate) const OTHERWISE: &[u8] = b" : ";
+
+// What the name of a parameter has before that of its variable.
+pub(crate) const VARIABLE: &[u8] = b"v_";

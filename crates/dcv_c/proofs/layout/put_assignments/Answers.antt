@@ -7,9 +7,6 @@ use Rattle.dcv_c.specs.Seen.{seen_assignment}
 use Rattle.dcv_c.specs.Layout.{text_in, assignment_line}
 use Rattle.dcv_c.proofs.layout.put_assignments.Goals as goal
 
-pub loop-assignment-init : goal.loop-assignment-init
-loop-assignment-init g c = puts_nothing _
-
 pub loop-assignment-preserved : goal.loop-assignment-preserved
 loop-assignment-preserved g c =
     puts_one_more (λ (assignment : CodeAssignment). text_in (assignment_line (seen_assignment c.args.names.now assignment))) c.args.assignments.now c.loop-assignment.assignment-index _ _ _ _ c.loop-assignment-test.true

@@ -9,9 +9,6 @@ some_lines : (locals : List (List ℕ)) (k : ℕ) → (length locals ≡ 0 → �
 some_lines [] k some whole = absurd (some (λ i. 0))
 some_lines (name ∷ names) k some whole = ap (λ names. text_in (Each local_line names <> Newline)) (take_all k (name ∷ names) whole)
 
-pub loop-name-init : goal.loop-name-init
-loop-name-init g c = puts_nothing _
-
 pub loop-name-preserved : goal.loop-name-preserved
 loop-name-preserved g c =
     puts_one_more (λ name. text_in (local_line name)) c.args.locals.now c.loop-name.name-index c.name-item.result _ _ _ c.loop-name-test.true c.loop-name.invariant

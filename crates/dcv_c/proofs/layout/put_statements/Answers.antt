@@ -7,9 +7,6 @@ use Rattle.dcv_c.specs.Seen.{seen_statement}
 use Rattle.dcv_c.specs.Layout.{text_in, statement_line}
 use Rattle.dcv_c.proofs.layout.put_statements.Goals as goal
 
-pub loop-statement-init : goal.loop-statement-init
-loop-statement-init g c = puts_nothing _
-
 pub loop-statement-preserved : goal.loop-statement-preserved
 loop-statement-preserved g c =
     puts_one_more (λ (statement : CodeStatement). text_in (statement_line (seen_statement c.args.names.now statement))) c.args.statements.now c.loop-statement.statement-index _ _ _ _ c.loop-statement-test.true
