@@ -25,6 +25,12 @@ use Rattle.dcv_c.proofs.LaidOut.{orderly, step_of, unit_laid}
 abbrev at : ℕ → List ℕ → Token
 at start bytes = record { bytes = bytes; start = start }
 
+-- names, by a rule
+pub record NamesSpelt (rule start : ℕ) (names : List (List ℕ)) (pieces : List Piece) : Type 0 where
+  pub placed : List Token
+  pub names_are : token_bytes placed ≡ names
+  pub spelt : Spelt (Rule rule ∷ []) (tokens_at start pieces) (Tokens placed ∷ [])
+
 -- ---- statics
 
 static_at : ℕ → List ℕ → Token
@@ -35,12 +41,7 @@ unfolding language lexicon static_at
 static_spelt start name is =
     by_rule rules.static (0, omega arith, refl) (by_token _ refl (by_token _ refl (by_token (static_at start name) (name_class name is) (by_token _ refl none))))
 
-pub record StaticsSpelt (start : ℕ) (names : List (List ℕ)) : Type 0 where
-  pub placed : List Token
-  pub names_are : token_bytes placed ≡ names
-  pub spelt : Spelt (Rule rules.more_statics ∷ []) (tokens_at start (pieces_in (Each static_line names))) (Tokens placed ∷ [])
-
-more_statics_spelt : (names : List (List ℕ)) (start : ℕ) → AllByRecursion IsName names → StaticsSpelt start names
+more_statics_spelt : (names : List (List ℕ)) (start : ℕ) → AllByRecursion IsName names → NamesSpelt rules.more_statics start names (pieces_in (Each static_line names))
 unfolding language static_at
 more_statics_spelt [] start is = record { placed = []; names_are = refl; spelt = by_rule rules.more_statics (0, omega arith, refl) none }
 more_statics_spelt (name ∷ names) start is =
@@ -112,12 +113,8 @@ parameter_spelt : (start : ℕ) (name : List ℕ) → IsName name
 unfolding language lexicon
 parameter_spelt start name is = by_rule rules.parameter (0, omega arith, refl) (by_token _ refl (by_token (at (start + 3 + 1) name) (name_class name is) none))
 
-pub record MoreSpelt (start : ℕ) (names : List (List ℕ)) : Type 0 where
-  pub placed : List Token
-  pub names_are : token_bytes placed ≡ names
-  pub spelt : Spelt (Rule rules.more_parameters ∷ []) (tokens_at start (pieces_in (Each (λ name. between_parameters <> declaration name) names))) (Tokens placed ∷ [])
-
-more_parameters_spelt : (names : List (List ℕ)) (start : ℕ) → AllByRecursion IsName names → MoreSpelt start names
+more_parameters_spelt : (names : List (List ℕ)) (start : ℕ) → AllByRecursion IsName names
+    → NamesSpelt rules.more_parameters start names (pieces_in (Each (λ name. between_parameters <> declaration name) names))
 unfolding language lexicon
 more_parameters_spelt [] start is = record { placed = []; names_are = refl; spelt = by_rule rules.more_parameters (0, omega arith, refl) none }
 more_parameters_spelt (name ∷ names) start is =
@@ -129,12 +126,7 @@ more_parameters_spelt (name ∷ names) start is =
       spelt = by_rule rules.more_parameters (1, omega arith, refl) (by_token (at start (codes ",")) refl (then (parameter_spelt from name is.0) more.spelt));
     }
 
-pub record ParametersSpelt (start : ℕ) (names : List (List ℕ)) : Type 0 where
-  pub placed : List Token
-  pub names_are : token_bytes placed ≡ names
-  pub spelt : Spelt (Rule rules.parameters ∷ []) (tokens_at start (pieces_in (parameters_layout names))) (Tokens placed ∷ [])
-
-parameters_spelt : (names : List (List ℕ)) (start : ℕ) → AllByRecursion IsName names → ParametersSpelt start names
+parameters_spelt : (names : List (List ℕ)) (start : ℕ) → AllByRecursion IsName names → NamesSpelt rules.parameters start names (pieces_in (parameters_layout names))
 unfolding language lexicon
 parameters_spelt [] start is = record { placed = []; names_are = refl; spelt = by_rule rules.parameters (1, omega arith, refl) (by_token (at start (codes "void")) refl none) }
 parameters_spelt (name ∷ names) start is =
@@ -152,12 +144,7 @@ local_spelt : (start : ℕ) (name : List ℕ) → IsName name
 unfolding language lexicon
 local_spelt start name is = by_rule rules.local (0, omega arith, refl) (by_token _ refl (by_token (at (start + 1 + 1 + 3 + 1) name) (name_class name is) (by_token _ refl none)))
 
-pub record LocalsSpelt (start : ℕ) (names : List (List ℕ)) (pieces : List Piece) : Type 0 where
-  pub placed : List Token
-  pub names_are : token_bytes placed ≡ names
-  pub spelt : Spelt (Rule rules.locals ∷ []) (tokens_at start pieces) (Tokens placed ∷ [])
-
-locals_spelt : (names : List (List ℕ)) (start : ℕ) → AllByRecursion IsName names → LocalsSpelt start names (pieces_in (Each local_line names))
+locals_spelt : (names : List (List ℕ)) (start : ℕ) → AllByRecursion IsName names → NamesSpelt rules.locals start names (pieces_in (Each local_line names))
 unfolding language
 locals_spelt [] start is = record { placed = []; names_are = refl; spelt = by_rule rules.locals (0, omega arith, refl) none }
 locals_spelt (name ∷ names) start is =
@@ -170,7 +157,7 @@ locals_spelt (name ∷ names) start is =
           by_rule rules.locals (1, omega arith, refl) (in_turn (pieces_in (local_line name)) (pieces_in (Each local_line names)) start (local_spelt start name is.0) more.spelt);
     }
 
-local_lines_spelt : (names : List (List ℕ)) (start : ℕ) → AllByRecursion IsName names → LocalsSpelt start names (pieces_in (local_lines names))
+local_lines_spelt : (names : List (List ℕ)) (start : ℕ) → AllByRecursion IsName names → NamesSpelt rules.locals start names (pieces_in (local_lines names))
 local_lines_spelt [] start is = locals_spelt [] start is
 local_lines_spelt (name ∷ names) start is =
     let l = locals_spelt (name ∷ names) start is in
