@@ -1,7 +1,7 @@
 -- The text of a unit is laid out: each piece ends where it does.
 use Rattle.std.proofs.Common.{◌≡◌, ℕ, true, List, [], ◌∷◌, ◌++◌, refl}
 use Rattle.std.proofs.Common.{codes}
-use Rattle.std.specs.List.{AllByRecursion, flat_map}
+use Rattle.std.specs.List.{AllByRecursion}
 use Rattle.std.proofs.lemmas.Bool.{and_parts}
 use Rattle.dcv_lexer.specs.Lexicon.{is_orderly}
 use Rattle.dcv_observer.specs.Classes.{is_short_word}

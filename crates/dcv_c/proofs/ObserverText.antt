@@ -14,7 +14,7 @@ use Rattle.dcv_automaton_file.specs.File.{node_line, state_lines, file_of}
 use Rattle.dcv_automaton_file.specs.Lines.{child_text, listed_by, number_of, accepting_numbers}
 use Rattle.dcv_automaton_file.proofs.PutLines.{listed_names, listed_seen, lines_seen, numbers_seen}
 use Rattle.dcv_observer.specs.Layouts.{Space, Newline, Word, ◌<>◌, ◌<+>◌, Each}
-use Rattle.dcv_c.specs.Tree.{Named, Holds, Equals, Plain, Chosen, Statement, Assign, When}
+use Rattle.dcv_c.specs.Tree.{Named, Equals, Statement, When}
 use Rattle.dcv_c.specs.Layout.{text_in, end, item_text, set_line, statement_line, between_tests, test_layout, returned_layout, declaration, static_line, local_line}
 use Rattle.dcv_c.specs.Layout.{between_parameters, parameters_layout, head, closing, end_lines, layout_of, text_of}
 use Rattle.dcv_c.specs.Observer.{state_name, next_name, node_name, parameter_name, reset_name, step_name, item_of, first_statement, node_statement}

@@ -91,12 +91,15 @@ parameters_layout (name ∷ names) = Joined between_parameters declaration (name
 
 -- ---- functions
 
+-- an empty line, and the next one up to the parameters
+abbrev pub beginning : List ℕ → List ℕ → Layout
+beginning kind name = Newline <> Word kind <+> Word name <> Word (codes "(")
+
 abbrev pub opening : Layout
 opening = Word (codes ")") <> Newline <> Word (codes "{") <> Newline
 
 abbrev pub head : List ℕ → List ℕ → Layout → Layout
-head kind name parameters =
-    Newline <> Word kind <+> Word name <> Word (codes "(") <> parameters <> opening
+head kind name parameters = beginning kind name <> parameters <> opening
 
 abbrev pub closing : Layout
 closing = Word (codes "}") <> Newline

@@ -1,13 +1,13 @@
 // The text of a unit.
-ghost use Rattle.std.specs.Prelude.{◌≡◌, ◌++◌, ℕ, List, [], codes, decimal, map, IfOk};
+ghost use Rattle.std.specs.Prelude.{◌≡◌, ℕ, List, decimal, map, IfOk};
 ghost use Rattle.dcv_io.specs.Putting.{Puts};
 ghost use Rattle.dcv_c.specs.Seen.{name_at, seen_item, seen_condition, seen_right, seen_statement, seen_test, seen_returned, seen_assignment, all_names};
 ghost use Rattle.dcv_c.specs.Placed.{PlacedUnit, unit_of};
 ghost use Rattle.dcv_c.specs.Actions.{Spells};
-ghost use Rattle.dcv_observer.specs.Layouts.{Space, Newline, Word, ◌<>◌, ◌<+>◌, Each, Joined};
+ghost use Rattle.dcv_observer.specs.Layouts.{Word, ◌<>◌, Each, Joined};
 ghost use Rattle.dcv_c.specs.Tree.{Assign, When, Chosen, Equals};
 ghost use Rattle.dcv_c.specs.Layout.{text_in, item_text, condition_layout, right_layout, set_line, statement_line, test_layout, between_tests, returned_layout};
-ghost use Rattle.dcv_c.specs.Layout.{declaration, static_line, local_line, local_lines, parameters_layout, head, assignment_line, reset_lines, end_lines, step_lines, text_of};
+ghost use Rattle.dcv_c.specs.Layout.{declaration, static_line, local_line, local_lines, parameters_layout, beginning, head, assignment_line, reset_lines, end_lines, step_lines, text_of};
 
 use crate::laws::texts_spell_units;
 use crate::unit::{Assignment, CUnit, Item, Reset, Returned, Right, Statement, Step};
@@ -136,18 +136,18 @@ pub(crate) fn put_local<T: Target>(target: &mut T, name: &[u8])
 
 // ---- functions
 
-// An empty line, and what the function is.
+// The lines before the body.
 fn put_head<T: Target>(target: &mut T, kind: &[u8], name: &[u8], parameters: &[Text])
     ensures { Puts (T.standing target.old) (T.standing target.new) (text_in (head kind.now name.now (parameters_layout parameters.now))) }
 {
-    put_opening(target, kind, name);
+    put_beginning(target, kind, name);
     put_parameters(target, parameters);
     target.put(OPENING);
 }
 
 // The same up to the parameters.
-pub(crate) fn put_opening<T: Target>(target: &mut T, kind: &[u8], name: &[u8])
-    ensures { Puts (T.standing target.old) (T.standing target.new) (text_in (Newline <> Word kind.now <+> Word name.now <> Word (codes "("))) }
+pub(crate) fn put_beginning<T: Target>(target: &mut T, kind: &[u8], name: &[u8])
+    ensures { Puts (T.standing target.old) (T.standing target.new) (text_in (beginning kind.now name.now)) }
 {
     put_pieces(target, &[NEWLINE, kind, SPACE, name, b"("]);
 }

@@ -10,7 +10,7 @@ ghost use Rattle.dcv_automaton_file.specs.File.{texts_of, file_of};
 ghost use Rattle.dcv_c.specs.Layout.{text_of};
 ghost use Rattle.dcv_c.specs.Observer.{observer_of};
 
-use crate::layout::{put_local, put_opening, put_set, put_static};
+use crate::layout::{put_beginning, put_local, put_set, put_static};
 use crate::words::{
     BECOMES, CHOICE, CLOSING, COMMA, END, IF, INDENT, INT, IS, NEWLINE, OPENING, OR, OTHERWISE,
     RETURN, SPACE, THEN, VARIABLE, VOID,
@@ -71,11 +71,11 @@ pub fn put_observer<T: Target>(target: &mut T, auto: &Auto, names: &[Name], node
     let _states = auto.states();
     let lines = nodes.lines();
     put_static(target, STATE);
-    put_opening(target, VOID, b"observer_reset");
+    put_beginning(target, VOID, b"observer_reset");
     put_pieces(target, &[VOID, OPENING]);
     put_set(target, STATE, b"0");
     target.put(CLOSING);
-    put_opening(target, INT, b"observer_step");
+    put_beginning(target, INT, b"observer_step");
     put_names(target, &PARAMETERS, names);
     target.put(OPENING);
     put_local(target, NEXT);

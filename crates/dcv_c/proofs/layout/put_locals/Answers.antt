@@ -1,7 +1,7 @@
 use Rattle.std.proofs.Common.{◌≡◌, ℕ, List, [], ◌∷◌, ◌≤◌, length, take, ap, ◌∙◌, true, false, ◌==◌}
 use Rattle.dcv_observer.specs.Layouts.{Newline, ◌<>◌, Each}
 use Rattle.std.proofs.lemmas.List.{take_all}
-use Rattle.dcv_io.proofs.Putting.{puts_one_more, puts_both, puts_nothing, puts_same}
+use Rattle.dcv_io.proofs.Putting.{puts_one_more, puts_both, puts_same}
 use Rattle.dcv_c.specs.Layout.{text_in, local_line, local_lines}
 use Rattle.dcv_c.proofs.layout.put_locals.Goals as goal
 

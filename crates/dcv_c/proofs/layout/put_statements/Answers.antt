@@ -1,6 +1,6 @@
 use Rattle.std.proofs.Common.{arith}
 use Rattle.std.proofs.lemmas.Grind.{common_steps}
-use Rattle.dcv_io.proofs.Putting.{puts_one_more, puts_nothing, puts_same}
+use Rattle.dcv_io.proofs.Putting.{puts_one_more, puts_same}
 use Rattle.dcv_observer.proofs.Listing.{all_seen}
 use Rattle.dcv_c.specs.declared.unit.Statement.{Statement as CodeStatement}
 use Rattle.dcv_c.specs.Seen.{seen_statement}

@@ -1,4 +1,4 @@
-use Rattle.std.proofs.Common.{map, take}
+use Rattle.std.proofs.Common.{take}
 use Rattle.dcv_io.specs.Putting.{Puts}
 use Rattle.dcv_observer.specs.Layouts.{Each}
 use Rattle.dcv_c.specs.Seen.{seen_statement}

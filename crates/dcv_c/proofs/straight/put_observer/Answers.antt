@@ -1,14 +1,10 @@
-use Rattle.std.proofs.Common.{◌<◌, ◌++◌, List, length, map, sym, ap, subst, refl, ◌∙◌, arith, codes}
-use Rattle.std.specs.Fmt.{decimal}
-use Rattle.std.specs.List.{All, enumerate_from}
+use Rattle.std.proofs.Common.{◌<◌, List, length, sym, ap, subst, ◌∙◌, arith}
+use Rattle.std.specs.List.{All}
 use Rattle.dcv_dfa.specs.declared.node_lines.NodeLine.{NodeLine}
 use Rattle.dcv_dfa.specs.NodeLines.{NodeLinesValue}
 use Rattle.dcv_io.proofs.Putting.{puts_both, puts_same}
-use Rattle.dcv_automaton_file.specs.File.{texts_of, node_line, state_lines}
+use Rattle.dcv_automaton_file.specs.File.{texts_of}
 use Rattle.dcv_automaton_file.proofs.Rows.{are_lined}
-use Rattle.dcv_automaton_file.proofs.PutLines.{lines_seen, numbers_seen}
-use Rattle.dcv_c.specs.Layout.{text_in}
-use Rattle.dcv_c.specs.Observer.{node_local, node_statement, state_statement}
 use Rattle.dcv_c.proofs.ObserverText.{text_is}
 use Rattle.dcv_c.proofs.straight.put_observer.Goals as goal
 
@@ -29,8 +25,8 @@ returns g c = λ access suffixes.
     let is = are_lined raw c.args.nodes.now c.states-states.ensures.raw c.states-states.ensures.auto c.requires.nodes c.requires.lines in
     let rows = c.rows.result.now in
     let reset =
-    puts_both _ _ _ _ _ (puts_both _ _ _ _ _ c.put_opening.ensures c.put_pieces.ensures) (puts_both _ _ _ _ _ c.put_set.ensures c.put.ensures) in
-    let head = puts_both _ _ _ _ _ c.put_opening-2.ensures (puts_both _ _ _ _ _ c.put_names.ensures c.put-2.ensures) in
+    puts_both _ _ _ _ _ (puts_both _ _ _ _ _ c.put_beginning.ensures c.put_pieces.ensures) (puts_both _ _ _ _ _ c.put_set.ensures c.put.ensures) in
+    let head = puts_both _ _ _ _ _ c.put_beginning-2.ensures (puts_both _ _ _ _ _ c.put_names.ensures c.put-2.ensures) in
     let locals = puts_both _ _ _ _ _ (puts_both _ _ _ _ _ c.put_local.ensures c.put_numbers.ensures) c.put-3.ensures in
     let statements =
     puts_both _ _ _ _ _ c.put_set-2.ensures (puts_both _ _ _ _ _ c.put_nodes.ensures (puts_both _ _ _ _ _ (c.put_rows.ensures raw) c.put_set-3.ensures)) in
