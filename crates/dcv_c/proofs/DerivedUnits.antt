@@ -1,12 +1,11 @@
 -- The text of a unit spells it.
-use Rattle.std.proofs.Common.{◌≡◌, ℕ, ◌+◌, ◌<◌, List, [], ◌∷◌, length, map, refl, sym, ap, subst, ◌∙◌, arith, append-nil, codes, decimal}
+use Rattle.std.proofs.Common.{◌≡◌, ℕ, ◌+◌, ◌<◌, List, [], ◌∷◌, length, map, refl, sym, ap, ◌∙◌, arith, codes, decimal}
 use Rattle.std.specs.List.{AllByRecursion}
 use Rattle.dcv_grammar.specs.declared.grammar.Symbol.TheVariants.{Class, Rule}
 use Rattle.dcv_lexer.specs.Cuts.{Token}
 use Rattle.dcv_observer.specs.Classes.{name as plain_name}
-use Rattle.dcv_observer.specs.Pieces.{Piece, Blank, bytes_of, tokens_at}
-use Rattle.dcv_observer.specs.Layouts.{◌<>◌, Each}
-use Rattle.dcv_observer.proofs.PieceLists.{tokens_append}
+use Rattle.dcv_observer.specs.Pieces.{Piece, bytes_of, tokens_at}
+use Rattle.dcv_observer.specs.Layouts.{Newline, ◌<>◌, Each}
 use Rattle.dcv_observer.proofs.Spelt.{laid_stands, none, by_token, by_rule, then, in_turn}
 use Rattle.dcv_observer.proofs.Words.{value_of_decimal}
 use Rattle.dcv_c.specs.Classes.{lexicon, open_parenthesis, close_parenthesis, open_brace, close_brace, semicolon, word_int, word_return}
@@ -164,10 +163,7 @@ local_lines_spelt (name ∷ names) start is =
     record {
       placed = l.placed;
       names_are = l.names_are;
-      spelt =
-          subst (λ tokens. Spelt (Rule rules.locals ∷ []) tokens (Tokens l.placed ∷ []))
-          (sym (tokens_append (pieces_in (Each local_line (name ∷ names))) (Blank 10 ∷ []) start ∙ append-nil (tokens_at start (pieces_in (Each local_line (name ∷ names))))))
-          l.spelt;
+      spelt = in_turn (pieces_in (Each local_line (name ∷ names))) (pieces_in Newline) start l.spelt none;
     }
 
 -- ---- the step

@@ -36,30 +36,29 @@ item_before : (item : Item) (next : ℕ) → IsItem item → stops next ≡ true
 item_before (Constant number) next is stop = number_before lexicon number next is stop
 item_before (Named name) next is stop = name_before name next is stop
 
+-- ---- one after another
+
 in_turn : (first second : Layout) (next : ℕ) → Laid first (first_byte (pieces_in second) next) → Laid second next → Laid (first <> second) next
 in_turn first second next one other = append_laid lexicon orderly (pieces_in first) (pieces_in second) next one other
 
--- ---- lists
-
+-- with something between every two
 module _ {X : Type 0} (between : Layout) (layout : X → Layout) (Is : X → Type 0)
     (stop : (x : X) (more : List Piece) (next : ℕ) → stops (first_byte (pieces_in (between <> layout x) ++ more) next) ≡ true)
     (laid : (x : X) (next : ℕ) → Is x → stops next ≡ true → Laid (layout x) next)
     (behind : (x : X) (next : ℕ) → Is x → stops next ≡ true → Laid (between <> layout x) next) where
-  abbrev others : List X → List Piece
-  others xs = pieces_in (Each (λ x. between <> layout x) xs)
+  abbrev others : List X → Layout
+  others xs = Each (λ x. between <> layout x) xs
 
-  stopped : (xs : List X) (next : ℕ) → stops next ≡ true → stops (first_byte (others xs) next) ≡ true
+  stopped : (xs : List X) (next : ℕ) → stops next ≡ true → stops (first_byte (pieces_in (others xs)) next) ≡ true
   stopped [] next s = s
-  stopped (x ∷ xs) next s = stop x (others xs) next
+  stopped (x ∷ xs) next s = stop x (pieces_in (others xs)) next
 
-  others_laid : (xs : List X) (next : ℕ) → AllByRecursion Is xs → stops next ≡ true → IsLaidOut lexicon (others xs) next
+  others_laid : (xs : List X) (next : ℕ) → AllByRecursion Is xs → stops next ≡ true → Laid (others xs) next
   others_laid [] next is s = tt
-  others_laid (x ∷ xs) next is s =
-      append_laid lexicon orderly (pieces_in (between <> layout x)) (others xs) next (behind x _ is.0 (stopped xs next s)) (others_laid xs next is.1 s)
+  others_laid (x ∷ xs) next is s = in_turn (between <> layout x) (others xs) next (behind x _ is.0 (stopped xs next s)) (others_laid xs next is.1 s)
 
   joined_laid : (x : X) (xs : List X) (next : ℕ) → AllByRecursion Is (x ∷ xs) → stops next ≡ true → Laid (Joined between layout (x ∷ xs)) next
-  joined_laid x xs next is s =
-      append_laid lexicon orderly (pieces_in (layout x)) (others xs) next (laid x _ is.0 (stopped xs next s)) (others_laid xs next is.1 s)
+  joined_laid x xs next is s = in_turn (layout x) (others xs) next (laid x _ is.0 (stopped xs next s)) (others_laid xs next is.1 s)
 
 -- the lines of a list, before others
 lines_laid : {X : Type 0} (line : X → Layout) (Is : X → Type 0) → ((x : X) (next : ℕ) → Is x → Laid (line x) next) → (xs : List X) (more : Layout) (next : ℕ)

@@ -114,7 +114,8 @@ abbrev pub end_lines : Layout → Layout
 end_lines returned = indent <> Word (codes "return") <+> returned <> end <> closing
 
 abbrev pub step_lines : List ℕ → List (List ℕ) → List (List ℕ) → List Statement → Returned → Layout
-step_lines name parameters locals statements returned = head (codes "int") name (parameters_layout parameters) <> local_lines locals <> Each statement_line statements <> end_lines (returned_layout returned)
+step_lines name parameters locals statements returned =
+    head (codes "int") name (parameters_layout parameters) <> local_lines locals <> Each statement_line statements <> end_lines (returned_layout returned)
 
 -- ---- the unit
 

@@ -9,8 +9,10 @@ use Rattle.dcv_c.proofs.layout.put_assignments.Goals as goal
 
 pub loop-assignment-preserved : goal.loop-assignment-preserved
 loop-assignment-preserved g c =
-    puts_one_more (λ (assignment : CodeAssignment). text_in (assignment_line (seen_assignment c.args.names.now assignment))) c.args.assignments.now c.loop-assignment.assignment-index _ _ _ _ c.loop-assignment-test.true
-    c.loop-assignment.invariant c.put_assignment.ensures
+    puts_one_more (λ (assignment : CodeAssignment). text_in (assignment_line (seen_assignment c.args.names.now assignment))) c.args.assignments.now c.loop-assignment.assignment-index _ _ _ _
+    c.loop-assignment-test.true c.loop-assignment.invariant c.put_assignment.ensures
 
 pub returns : goal.returns
-returns g c = puts_same _ _ _ _ c.loop-assignment.invariant (all_seen (λ assignment. text_in (assignment_line assignment)) (seen_assignment c.args.names.now) c.args.assignments.now c.loop-assignment.assignment-index (grind (arith, common_steps)))
+returns g c =
+    puts_same _ _ _ _ c.loop-assignment.invariant
+    (all_seen (λ assignment. text_in (assignment_line assignment)) (seen_assignment c.args.names.now) c.args.assignments.now c.loop-assignment.assignment-index (grind (arith, common_steps)))

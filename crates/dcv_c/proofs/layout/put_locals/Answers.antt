@@ -5,7 +5,8 @@ use Rattle.dcv_io.proofs.Putting.{puts_one_more, puts_both, puts_same}
 use Rattle.dcv_c.specs.Layout.{text_in, local_line, local_lines}
 use Rattle.dcv_c.proofs.layout.put_locals.Goals as goal
 
-some_lines : (locals : List (List ℕ)) (k : ℕ) → (length locals ≡ 0 → ⊥) → length locals ≤ k → text_in (Each local_line (take k locals) <> Newline) ≡ text_in (local_lines locals)
+some_lines : (locals : List (List ℕ)) (k : ℕ) → (length locals ≡ 0 → ⊥) → length locals ≤ k
+    → text_in (Each local_line (take k locals) <> Newline) ≡ text_in (local_lines locals)
 some_lines [] k some whole = absurd (some (λ i. 0))
 some_lines (name ∷ names) k some whole = ap (λ names. text_in (Each local_line names <> Newline)) (take_all k (name ∷ names) whole)
 

@@ -16,5 +16,5 @@ pub returns : goal.returns
 returns g c =
     let split : c.args.parameters.now ≡ c.in-Some.first.now ∷ c.in-Some.others.now = c.in-Some.ensures.cases.0 in
     puts_same _ _ _ _ (puts_both _ _ _ _ _ c.put_parameter.ensures c.loop-parameter.invariant)
-    (joined_all (λ name. text_in (declaration name)) (text_in between_parameters) (λ names. text_in (parameters_layout names)) (λ first others. refl) c.as_bytes.result.now c.in-Some.first.now c.in-Some.others.now c.args.parameters.now
-    c.loop-parameter.parameter-index c.as_bytes.ensures split c.loop-parameter-test.false)
+    (joined_all (λ name. text_in (declaration name)) (text_in between_parameters) (λ names. text_in (parameters_layout names)) (λ first others. refl) c.as_bytes.result.now
+    c.in-Some.first.now c.in-Some.others.now c.args.parameters.now c.loop-parameter.parameter-index c.as_bytes.ensures split c.loop-parameter-test.false)

@@ -9,8 +9,10 @@ use Rattle.dcv_c.proofs.layout.put_statements.Goals as goal
 
 pub loop-statement-preserved : goal.loop-statement-preserved
 loop-statement-preserved g c =
-    puts_one_more (λ (statement : CodeStatement). text_in (statement_line (seen_statement c.args.names.now statement))) c.args.statements.now c.loop-statement.statement-index _ _ _ _ c.loop-statement-test.true
-    c.loop-statement.invariant c.put_statement.ensures
+    puts_one_more (λ (statement : CodeStatement). text_in (statement_line (seen_statement c.args.names.now statement))) c.args.statements.now c.loop-statement.statement-index _ _ _ _
+    c.loop-statement-test.true c.loop-statement.invariant c.put_statement.ensures
 
 pub returns : goal.returns
-returns g c = puts_same _ _ _ _ c.loop-statement.invariant (all_seen (λ statement. text_in (statement_line statement)) (seen_statement c.args.names.now) c.args.statements.now c.loop-statement.statement-index (grind (arith, common_steps)))
+returns g c =
+    puts_same _ _ _ _ c.loop-statement.invariant
+    (all_seen (λ statement. text_in (statement_line statement)) (seen_statement c.args.names.now) c.args.statements.now c.loop-statement.statement-index (grind (arith, common_steps)))
