@@ -53,7 +53,7 @@ state_is line = λ i. text_in (statement_line (When (Equals state_name line.numb
 abbrev tests_put : List (List ℕ) → List ℕ
 tests_put numbers = listed_by (codes "nx == ") [] (text_in between_tests) (codes "0") numbers
 
-tests_are : (lines : List StateLine) → tests_put (accepting_numbers lines) ≡ text_in (returned_layout (returned_for (accepting_tests lines)))
+pub tests_are : (lines : List StateLine) → tests_put (accepting_numbers lines) ≡ text_in (returned_layout (returned_for (accepting_tests lines)))
 unfolding digits
 tests_are lines = by (filter (λ (line : StateLine). line.accepting) lines)
   where
@@ -83,10 +83,11 @@ whole parameters locals statements returned =
 -- of what is put
 abbrev put_of : RawValue → List (List ℕ) → List CodeLine → List Child → List ℕ
 put_of raw names lines rows =
+    let states = state_lines raw rows in
     whole (parameters_put names) (flat_map (λ number. text_in (local_line (node_name number))) (range_with_len 0 (length lines)))
     (text_in (set_line next_name (Word (codes "0")) <> Each (λ line. Word (node_put line)) (map (node_line names) (enumerate_from 0 lines))
-    <> Each (λ line. Word (state_put line)) (state_lines raw rows) <> statement_line last_statement))
-    (tests_put (accepting_numbers (state_lines raw rows)))
+    <> Each (λ line. Word (state_put line)) states <> statement_line last_statement))
+    (text_in (returned_layout (returned_for (accepting_tests states))))
 
 pub text_is : (raw : RawValue) (names : List (List ℕ)) (lines : List CodeLine) (rows : List Child) (access : List AccessLine) (suffixes : List SuffixLine)
     → lines ≡ (node_lines_of raw).lines → rows ≡ (node_lines_of raw).rows → put_of raw names lines rows ≡ text_of (observer_of (file_of raw names access suffixes))
@@ -95,12 +96,12 @@ text_is raw names lines rows access suffixes same all =
     let nodes = (file_of raw names access suffixes).node_lines in
     let states = state_lines raw (node_lines_of raw).rows in
     let text : Statement → List ℕ = λ statement. text_in (statement_line statement) in
+    let returned = text_in (returned_layout (returned_for (accepting_tests states))) in
     let locals =
     numbers_seen (λ number. text_in (local_line (node_name number))) names 0 (node_lines_of raw).lines
     ∙ lines_seen (λ (line : NodeLine). text_in (local_line (node_local line))) node_local (λ name. text_in (local_line name)) (λ line. refl) nodes in
     (λ i. put_of raw names (same i) (all i))
     ∙ (λ i. whole (parameters_are names i) (locals i)
-    (text first_statement ++ (lines_seen node_put node_statement text node_is nodes i ++ (lines_seen state_put state_statement text state_is states i ++ text last_statement)))
-    (tests_are states i))
+    (text first_statement ++ (lines_seen node_put node_statement text node_is nodes i ++ (lines_seen state_put state_statement text state_is states i ++ text last_statement))) returned)
     ∙ (λ i. whole (text_in (parameters_layout (map parameter_name names))) (text_in (Each local_line (map node_local nodes)))
-    (statements_are (map node_statement nodes) (map state_statement states) i) (text_in (returned_layout (returned_for (accepting_tests states)))))
+    (statements_are (map node_statement nodes) (map state_statement states) i) returned)

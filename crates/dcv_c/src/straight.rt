@@ -6,9 +6,10 @@ ghost use Rattle.dcv_dfa.specs.NodeLines.{node_lines_of};
 ghost use Rattle.dcv_dfa.specs.Auto.{count_of_nodes};
 ghost use Rattle.dcv_automaton_text.specs.Rules.{AreNames};
 ghost use Rattle.dcv_automaton_text.specs.File.{AccessLine, SuffixLine};
-ghost use Rattle.dcv_automaton_file.specs.File.{texts_of, file_of};
-ghost use Rattle.dcv_c.specs.Layout.{text_of};
-ghost use Rattle.dcv_c.specs.Observer.{observer_of};
+ghost use Rattle.dcv_automaton_file.specs.File.{texts_of, state_lines, file_of};
+ghost use Rattle.dcv_language.specs.declared.child.Child.{Child as PlainChild};
+ghost use Rattle.dcv_c.specs.Layout.{text_in, statement_line, returned_layout, text_of};
+ghost use Rattle.dcv_c.specs.Observer.{last_statement, accepting_tests, returned_for, observer_of};
 
 use crate::layout::{put_beginning, put_local, put_set, put_static};
 use crate::words::{
@@ -56,6 +57,22 @@ const ACCEPTING: Listing<'static> = Listing {
     none: &[b"0"],
 };
 
+// The state is stored.
+fn put_stored<T: Target>(target: &mut T)
+    ensures { Puts (T.standing target.old) (T.standing target.new) (text_in (statement_line last_statement)) }
+{
+    put_set(target, STATE, NEXT);
+}
+
+// What the step returns.
+#[tactic(auto, using(crate::proofs::ObserverText::tests_are))]
+fn put_returned<T: Target>(target: &mut T, auto: &Auto)
+    ensures { (rows : List PlainChild) → length rows ≡ length auto.now.rows
+        → Puts (T.standing target.old) (T.standing target.new) (text_in (returned_layout (returned_for (accepting_tests (state_lines auto.now rows))))) }
+{
+    put_accepting(target, &ACCEPTING, auto);
+}
+
 /// Puts the text of an automaton's observer, with these names of its variables and these lines of its nodes, piece by piece. It takes no
 /// memory but what the target does.
 pub fn put_observer<T: Target>(target: &mut T, auto: &Auto, names: &[Name], nodes: &NodeLines)
@@ -84,8 +101,8 @@ pub fn put_observer<T: Target>(target: &mut T, auto: &Auto, names: &[Name], node
     put_set(target, NEXT, b"0");
     put_nodes(target, &NODES, names, lines);
     put_rows(target, &ROWS, nodes.rows());
-    put_set(target, STATE, NEXT);
+    put_stored(target);
     put_pieces(target, &[INDENT, RETURN]);
-    put_accepting(target, &ACCEPTING, auto);
+    put_returned(target, auto);
     put_pieces(target, &[END, CLOSING]);
 }
