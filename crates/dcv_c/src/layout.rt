@@ -137,7 +137,7 @@ pub(crate) fn put_local<T: Target>(target: &mut T, name: &[u8])
 // ---- functions
 
 // The lines before the body.
-fn put_head<T: Target>(target: &mut T, kind: &[u8], name: &[u8], parameters: &[Text])
+pub(crate) fn put_head<T: Target>(target: &mut T, kind: &[u8], name: &[u8], parameters: &[Text])
     ensures { Puts (T.standing target.old) (T.standing target.new) (text_in (head kind.now name.now (parameters_layout parameters.now))) }
 {
     put_beginning(target, kind, name);

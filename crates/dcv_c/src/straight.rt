@@ -11,7 +11,7 @@ ghost use Rattle.dcv_language.specs.declared.child.Child.{Child as PlainChild};
 ghost use Rattle.dcv_c.specs.Layout.{text_in, statement_line, returned_layout, text_of};
 ghost use Rattle.dcv_c.specs.Observer.{last_statement, accepting_tests, returned_for, observer_of};
 
-use crate::layout::{put_beginning, put_local, put_set, put_static};
+use crate::layout::{put_beginning, put_head, put_local, put_set, put_static};
 use crate::words::{
     BECOMES, CHOICE, CLOSING, COMMA, END, IF, INDENT, INT, IS, NEWLINE, OPENING, OR, OTHERWISE,
     RETURN, SPACE, THEN, VARIABLE, VOID,
@@ -88,8 +88,7 @@ pub fn put_observer<T: Target>(target: &mut T, auto: &Auto, names: &[Name], node
     let _states = auto.states();
     let lines = nodes.lines();
     put_static(target, STATE);
-    put_beginning(target, VOID, b"observer_reset");
-    put_pieces(target, &[VOID, OPENING]);
+    put_head(target, VOID, b"observer_reset", &[]);
     put_set(target, STATE, b"0");
     target.put(CLOSING);
     put_beginning(target, INT, b"observer_step");

@@ -24,14 +24,13 @@ returns g c = λ access suffixes.
     let raw = c.args.auto.now in
     let is = are_lined raw c.args.nodes.now c.states-states.ensures.raw c.states-states.ensures.auto c.requires.nodes c.requires.lines in
     let rows = c.rows.result.now in
-    let reset =
-    puts_both _ _ _ _ _ (puts_both _ _ _ _ _ c.put_beginning.ensures c.put_pieces.ensures) (puts_both _ _ _ _ _ c.put_set.ensures c.put.ensures) in
-    let head = puts_both _ _ _ _ _ c.put_beginning-2.ensures (puts_both _ _ _ _ _ c.put_names.ensures c.put-2.ensures) in
+    let reset = puts_both _ _ _ _ _ c.put_head.ensures (puts_both _ _ _ _ _ c.put_set.ensures c.put.ensures) in
+    let head = puts_both _ _ _ _ _ c.put_beginning.ensures (puts_both _ _ _ _ _ c.put_names.ensures c.put-2.ensures) in
     let locals = puts_both _ _ _ _ _ (puts_both _ _ _ _ _ c.put_local.ensures c.put_numbers.ensures) c.put-3.ensures in
     let statements =
     puts_both _ _ _ _ _ c.put_set-2.ensures (puts_both _ _ _ _ _ c.put_nodes.ensures (puts_both _ _ _ _ _ (c.put_rows.ensures raw) c.put_stored.ensures)) in
     let end =
-    puts_both _ _ _ _ _ c.put_pieces-2.ensures (puts_both _ _ _ _ _ (c.put_returned.ensures rows (ap length c.rows.ensures ∙ is.row_count)) c.put_pieces-3.ensures) in
+    puts_both _ _ _ _ _ c.put_pieces.ensures (puts_both _ _ _ _ _ (c.put_returned.ensures rows (ap length c.rows.ensures ∙ is.row_count)) c.put_pieces-2.ensures) in
     puts_same _ _ _ _
     (puts_both _ _ _ _ _ c.put_static.ensures (puts_both _ _ _ _ _ reset (puts_both _ _ _ _ _ head (puts_both _ _ _ _ _ locals (puts_both _ _ _ _ _ statements end)))))
     (text_is raw (texts_of c.args.names.now) c.lines-lines.result.now rows access suffixes
