@@ -1,14 +1,15 @@
 -- The statements of a unit that are laid out have derivations that stand for them.
 use Rattle.std.proofs.Common.{◌≡◌, ℕ, ◌+◌, cond, List, [], ◌∷◌, Option, Some, None, length, map, refl, ap}
 use Rattle.std.proofs.Common.{◌∙◌, arith, codes, decimal}
-use Rattle.std.specs.List.{AllByRecursion, flat_map}
+use Rattle.std.specs.List.{AllByRecursion}
 use Rattle.std.proofs.lemmas.Bool.{and_parts, eqb-true}
 use Rattle.dcv_grammar.specs.declared.grammar.Symbol.{Symbol}
 use Rattle.dcv_grammar.specs.declared.grammar.Symbol.TheVariants.{Rule}
 use Rattle.dcv_lexer.specs.Cuts.{Token}
 use Rattle.dcv_lexer.specs.Decimal.{value_of}
 use Rattle.dcv_observer.specs.Classes.{name as plain_name, number, is_short_word, class_of}
-use Rattle.dcv_observer.specs.Pieces.{Piece, Blank, Text, bytes_of, tokens_at}
+use Rattle.dcv_observer.specs.Pieces.{bytes_of, tokens_at}
+use Rattle.dcv_observer.specs.Layouts.{◌<>◌, Each}
 use Rattle.dcv_observer.proofs.Spelt.{Spelt as SpeltBy, none, by_token, by_rule, then, in_turn}
 use Rattle.dcv_observer.proofs.Words.{word_is_no_number, decimal_is, value_of_decimal, number_class as class_of_decimal}
 use Rattle.dcv_c.specs.Classes.{lexicon}
@@ -19,8 +20,7 @@ use Rattle.dcv_c.specs.Language as rules
 use Rattle.dcv_c.specs.Language.{language}
 use Rattle.dcv_c.specs.Actions.{Part, scheme, AToken, ARight, Compared, AStatement, Statements, AReturned, Tests}
 use Rattle.dcv_c.specs.Form.{IsName, IsNumber, IsItem, IsCondition, IsRight, IsStatement, IsTest, IsReturned}
-use Rattle.dcv_c.specs.Layout.{item_text}
-use Rattle.dcv_c.proofs.UnitPieces.{condition_pieces, right_pieces, statement_pieces, test_pieces, returned_pieces}
+use Rattle.dcv_c.specs.Layout.{pieces_in, item_text, condition_layout, right_layout, statement_line, between_tests, test_layout, returned_layout}
 
 -- by the scheme of the subset
 abbrev pub Spelt : List Symbol → List Token → List Part → Type 0
@@ -67,7 +67,7 @@ pub record ConditionSpelt (start : ℕ) (condition : Condition) : Type 0 where
   pub name : Token
   pub number : Option Token
   pub condition_is : condition_of name.bytes number ≡ condition
-  pub spelt : Spelt (Rule rules.condition ∷ []) (tokens_at start (condition_pieces condition)) (Compared name number ∷ [])
+  pub spelt : Spelt (Rule rules.condition ∷ []) (tokens_at start (pieces_in (condition_layout condition))) (Compared name number ∷ [])
 
 condition_spelt : (start : ℕ) (condition : Condition) → IsCondition condition → ConditionSpelt start condition
 unfolding language lexicon
@@ -92,7 +92,7 @@ condition_spelt start (Equals name n) is =
 pub record RightSpelt (start : ℕ) (right : Right) : Type 0 where
   pub placed : PlacedRight
   pub right_is : right_of placed ≡ right
-  pub spelt : Spelt (Rule rules.right ∷ []) (tokens_at start (right_pieces right)) (ARight placed ∷ [])
+  pub spelt : Spelt (Rule rules.right ∷ []) (tokens_at start (pieces_in (right_layout right))) (ARight placed ∷ [])
 
 right_spelt : (start : ℕ) (right : Right) → IsRight right → RightSpelt start right
 unfolding language lexicon
@@ -140,7 +140,7 @@ right_spelt start (Chosen (Equals name n) item otherwise) is =
 pub record StatementSpelt (start : ℕ) (statement : Statement) : Type 0 where
   pub placed : PlacedStatement
   pub statement_is : statement_of placed ≡ statement
-  pub spelt : Spelt (Rule rules.statement ∷ []) (tokens_at start (statement_pieces statement)) (AStatement placed ∷ [])
+  pub spelt : Spelt (Rule rules.statement ∷ []) (tokens_at start (pieces_in (statement_line statement))) (AStatement placed ∷ [])
 
 statement_spelt : (start : ℕ) (statement : Statement) → IsStatement statement → StatementSpelt start statement
 unfolding language lexicon
@@ -154,14 +154,14 @@ statement_spelt start (Assign left right) is =
       statement_is = ap (Assign left) r.right_is;
       spelt =
           by_rule rules.statement (0, omega arith, refl) (by_token name (name_class left is.0) (by_token equals refl
-          (in_turn (right_pieces right) _ from r.spelt (by_token _ refl none))));
+          (in_turn (pieces_in (right_layout right)) _ from r.spelt (by_token _ refl none))));
     }
 statement_spelt start (When condition left item) is =
     let if_word = at (start + 1 + 1) (codes "if") in
     let opening = at (start + 1 + 1 + 2 + 1) (codes "(") in
     let from = start + 1 + 1 + 2 + 1 + 1 in
     let c = condition_spelt from condition is.0 in
-    let behind = from + length (bytes_of (condition_pieces condition)) in
+    let behind = from + length (bytes_of (pieces_in (condition_layout condition))) in
     let name = at (behind + 1 + 1) left in
     let last = behind + 1 + 1 + length left + 1 + 1 + 1 in
     let i = item_spelt last item is.2 in
@@ -169,37 +169,34 @@ statement_spelt start (When condition left item) is =
       placed = PlacedWhen c.name c.number name (at last (item_text item));
       statement_is = λ k. When (c.condition_is k) left (i.item_is k);
       spelt =
-          by_rule rules.statement (1, omega arith, refl) (by_token if_word refl (by_token opening refl (in_turn (condition_pieces condition) _ from c.spelt (by_token _ refl
+          by_rule rules.statement (1, omega arith, refl) (by_token if_word refl (by_token opening refl (in_turn (pieces_in (condition_layout condition)) _ from c.spelt (by_token _ refl
           (by_token name (name_class left is.1) (by_token _ refl (then i.spelt (by_token _ refl none))))))));
     }
 
 pub record StatementsSpelt (start : ℕ) (statements : List Statement) : Type 0 where
   pub placed : List PlacedStatement
   pub statements_are : map statement_of placed ≡ statements
-  pub spelt : Spelt (Rule rules.statements ∷ []) (tokens_at start (flat_map statement_pieces statements)) (Statements placed ∷ [])
+  pub spelt : Spelt (Rule rules.statements ∷ []) (tokens_at start (pieces_in (Each statement_line statements))) (Statements placed ∷ [])
 
 pub statements_spelt : (statements : List Statement) (start : ℕ) → AllByRecursion IsStatement statements → StatementsSpelt start statements
 unfolding language
 statements_spelt [] start is = record { placed = []; statements_are = refl; spelt = by_rule rules.statements (0, omega arith, refl) none }
 statements_spelt (statement ∷ statements) start is =
     let s = statement_spelt start statement is.0 in
-    let more = statements_spelt statements (start + length (bytes_of (statement_pieces statement))) is.1 in
+    let more = statements_spelt statements (start + length (bytes_of (pieces_in (statement_line statement)))) is.1 in
     record {
       placed = s.placed ∷ more.placed;
       statements_are = λ i. s.statement_is i ∷ more.statements_are i;
       spelt =
-          by_rule rules.statements (1, omega arith, refl) (in_turn (statement_pieces statement) (flat_map statement_pieces statements) start s.spelt more.spelt);
+          by_rule rules.statements (1, omega arith, refl) (in_turn (pieces_in (statement_line statement)) (pieces_in (Each statement_line statements)) start s.spelt more.spelt);
     }
 
 -- ---- what is returned
 
-abbrev or_test : Test → List Piece
-or_test test = Blank 32 ∷ Text (codes "||") ∷ Blank 32 ∷ test_pieces test
-
 pub record TestsSpelt (start : ℕ) (tests : List Test) : Type 0 where
   pub placed : List PlacedTest
   pub tests_are : map test_of placed ≡ tests
-  pub spelt : Spelt (Rule rules.more_tests ∷ []) (tokens_at start (flat_map or_test tests)) (Tests placed ∷ [])
+  pub spelt : Spelt (Rule rules.more_tests ∷ []) (tokens_at start (pieces_in (Each (λ test. between_tests <> test_layout test) tests))) (Tests placed ∷ [])
 
 more_tests_spelt : (tests : List Test) (start : ℕ) → AllByRecursion IsTest tests → TestsSpelt start tests
 unfolding language lexicon
@@ -222,7 +219,7 @@ more_tests_spelt (test ∷ tests) start are =
 pub record ReturnedSpelt (start : ℕ) (returned : Returned) : Type 0 where
   pub placed : PlacedReturned
   pub returned_is : returned_of placed ≡ returned
-  pub spelt : Spelt (Rule rules.returned ∷ []) (tokens_at start (returned_pieces returned)) (AReturned placed ∷ [])
+  pub spelt : Spelt (Rule rules.returned ∷ []) (tokens_at start (pieces_in (returned_layout returned))) (AReturned placed ∷ [])
 
 pub returned_spelt : (start : ℕ) (returned : Returned) → IsReturned returned → ReturnedSpelt start returned
 unfolding language lexicon

@@ -1,11 +1,11 @@
 -- The text of a unit spells it.
-use Rattle.std.proofs.Common.{◌≡◌, ℕ, ◌+◌, ◌<◌, List, [], ◌∷◌, ◌++◌, length, map, refl, sym, ap, subst, ◌∙◌, arith, append-nil, codes, decimal}
-use Rattle.std.specs.List.{AllByRecursion, flat_map}
+use Rattle.std.proofs.Common.{◌≡◌, ℕ, ◌+◌, ◌<◌, List, [], ◌∷◌, length, map, refl, sym, ap, ◌∙◌, arith, codes, decimal}
+use Rattle.std.specs.List.{AllByRecursion}
 use Rattle.dcv_grammar.specs.declared.grammar.Symbol.TheVariants.{Class, Rule}
 use Rattle.dcv_lexer.specs.Cuts.{Token}
 use Rattle.dcv_observer.specs.Classes.{name as plain_name}
-use Rattle.dcv_observer.specs.Pieces.{Piece, Blank, Text, bytes_of, tokens_at}
-use Rattle.dcv_observer.proofs.PieceLists.{tokens_append}
+use Rattle.dcv_observer.specs.Pieces.{Piece, bytes_of, tokens_at}
+use Rattle.dcv_observer.specs.Layouts.{Newline, ◌<>◌, Each}
 use Rattle.dcv_observer.proofs.Spelt.{laid_stands, none, by_token, by_rule, then, in_turn}
 use Rattle.dcv_observer.proofs.Words.{value_of_decimal}
 use Rattle.dcv_c.specs.Classes.{lexicon, open_parenthesis, close_parenthesis, open_brace, close_brace, semicolon, word_int, word_return}
@@ -16,40 +16,40 @@ use Rattle.dcv_c.specs.Language as rules
 use Rattle.dcv_c.specs.Language.{language}
 use Rattle.dcv_c.specs.Actions.{AToken, Tokens, Assignments, AReset, AReturned, AStep, AUnit, Spells}
 use Rattle.dcv_c.specs.Form.{IsName, IsAssignment, IsSpellable}
-use Rattle.dcv_c.specs.Layout.{text_of}
-use Rattle.dcv_c.proofs.UnitPieces.{static_pieces, assignment_pieces, parameter_pieces, parameters_pieces, local_pieces, local_line_pieces}
-use Rattle.dcv_c.proofs.UnitPieces.{statement_pieces, returned_pieces, reset_pieces, head_pieces, end_pieces, step_pieces, pieces_of, text_in_pieces}
+use Rattle.dcv_c.specs.Layout.{pieces_in, declaration, static_line, local_line, local_lines, between_parameters, parameters_layout, head, assignment_line, reset_lines}
+use Rattle.dcv_c.specs.Layout.{statement_line, returned_layout, end_lines, layout_of, text_of}
 use Rattle.dcv_c.proofs.Derived.{Spelt, name_class, number_class, statements_spelt, returned_spelt}
-use Rattle.dcv_c.proofs.LaidOut.{orderly, unit_laid}
+use Rattle.dcv_c.proofs.LaidOut.{orderly, step_of, unit_laid}
 
 abbrev at : ℕ → List ℕ → Token
 at start bytes = record { bytes = bytes; start = start }
+
+-- names, by a rule
+pub record NamesSpelt (rule start : ℕ) (names : List (List ℕ)) (pieces : List Piece) : Type 0 where
+  pub placed : List Token
+  pub names_are : token_bytes placed ≡ names
+  pub spelt : Spelt (Rule rule ∷ []) (tokens_at start pieces) (Tokens placed ∷ [])
 
 -- ---- statics
 
 static_at : ℕ → List ℕ → Token
 static_at start name = at (start + 6 + 1 + 3 + 1) name
 
-static_spelt : (start : ℕ) (name : List ℕ) → IsName name → Spelt (Rule rules.static ∷ []) (tokens_at start (static_pieces name)) (AToken (static_at start name) ∷ [])
+static_spelt : (start : ℕ) (name : List ℕ) → IsName name → Spelt (Rule rules.static ∷ []) (tokens_at start (pieces_in (static_line name))) (AToken (static_at start name) ∷ [])
 unfolding language lexicon static_at
 static_spelt start name is =
     by_rule rules.static (0, omega arith, refl) (by_token _ refl (by_token _ refl (by_token (static_at start name) (name_class name is) (by_token _ refl none))))
 
-pub record StaticsSpelt (start : ℕ) (names : List (List ℕ)) : Type 0 where
-  pub placed : List Token
-  pub names_are : token_bytes placed ≡ names
-  pub spelt : Spelt (Rule rules.more_statics ∷ []) (tokens_at start (flat_map static_pieces names)) (Tokens placed ∷ [])
-
-more_statics_spelt : (names : List (List ℕ)) (start : ℕ) → AllByRecursion IsName names → StaticsSpelt start names
+more_statics_spelt : (names : List (List ℕ)) (start : ℕ) → AllByRecursion IsName names → NamesSpelt rules.more_statics start names (pieces_in (Each static_line names))
 unfolding language static_at
 more_statics_spelt [] start is = record { placed = []; names_are = refl; spelt = by_rule rules.more_statics (0, omega arith, refl) none }
 more_statics_spelt (name ∷ names) start is =
-    let more = more_statics_spelt names (start + length (bytes_of (static_pieces name))) is.1 in
+    let more = more_statics_spelt names (start + length (bytes_of (pieces_in (static_line name)))) is.1 in
     record {
       placed = static_at start name ∷ more.placed;
       names_are = λ i. name ∷ more.names_are i;
       spelt =
-          by_rule rules.more_statics (1, omega arith, refl) (in_turn (static_pieces name) (flat_map static_pieces names) start (static_spelt start name is.0) more.spelt);
+          by_rule rules.more_statics (1, omega arith, refl) (in_turn (pieces_in (static_line name)) (pieces_in (Each static_line names)) start (static_spelt start name is.0) more.spelt);
     }
 
 -- ---- reset
@@ -57,7 +57,7 @@ more_statics_spelt (name ∷ names) start is =
 pub record AssignmentsSpelt (start : ℕ) (assignments : List Assignment) : Type 0 where
   pub placed : List PlacedAssignment
   pub assignments_are : map assignment_of placed ≡ assignments
-  pub spelt : Spelt (Rule rules.assignments ∷ []) (tokens_at start (flat_map assignment_pieces assignments)) (Assignments placed ∷ [])
+  pub spelt : Spelt (Rule rules.assignments ∷ []) (tokens_at start (pieces_in (Each assignment_line assignments))) (Assignments placed ∷ [])
 
 assignments_spelt : (assignments : List Assignment) (start : ℕ) → AllByRecursion IsAssignment assignments → AssignmentsSpelt start assignments
 unfolding language lexicon
@@ -82,7 +82,7 @@ record ResetSpelt (start : ℕ) (of : CUnit) : Type 0 where
   end : Token
   name_is : name.bytes ≡ of.reset
   assignments_are : map assignment_of placed ≡ of.assignments
-  spelt : Spelt (Rule rules.reset ∷ []) (tokens_at start (reset_pieces of)) (AReset name placed end ∷ [])
+  spelt : Spelt (Rule rules.reset ∷ []) (tokens_at start (pieces_in (reset_lines of.reset of.assignments))) (AReset name placed end ∷ [])
 
 reset_spelt : (start : ℕ) (of : CUnit) → IsSpellable of → ResetSpelt start of
 unfolding language lexicon
@@ -92,7 +92,7 @@ reset_spelt start of is =
     let behind = start + 1 + 4 + 1 + length of.reset in
     let from = behind + 1 + 4 + 1 + 1 + 1 + 1 in
     let a = assignments_spelt of.assignments from is.assignments in
-    let end = at (from + length (bytes_of (flat_map assignment_pieces of.assignments))) (codes "}") in
+    let end = at (from + length (bytes_of (pieces_in (Each assignment_line of.assignments)))) (codes "}") in
     record {
       name = name;
       placed = a.placed;
@@ -102,25 +102,18 @@ reset_spelt start of is =
       spelt =
           by_rule rules.reset (0, omega arith, refl) (by_token void refl (by_token name (name_class of.reset is.reset)
           (by_token (at behind (codes "(")) refl (by_token (at (behind + 1) (codes "void")) refl (by_token (at (behind + 1 + 4) (codes ")")) refl
-          (by_token (at (behind + 1 + 4 + 1 + 1) (codes "{")) refl (in_turn (flat_map assignment_pieces of.assignments) _ from a.spelt (by_token end refl none))))))));
+          (by_token (at (behind + 1 + 4 + 1 + 1) (codes "{")) refl (in_turn (pieces_in (Each assignment_line of.assignments)) _ from a.spelt (by_token end refl none))))))));
     }
 
 -- ---- parameters
-
-abbrev next_parameter : List ℕ → List Piece
-next_parameter name = Text (codes ",") ∷ Blank 32 ∷ parameter_pieces name
 
 parameter_spelt : (start : ℕ) (name : List ℕ) → IsName name
     → Spelt (Rule rules.parameter ∷ []) (at start (codes "int") ∷ at (start + 3 + 1) name ∷ []) (AToken (at (start + 3 + 1) name) ∷ [])
 unfolding language lexicon
 parameter_spelt start name is = by_rule rules.parameter (0, omega arith, refl) (by_token _ refl (by_token (at (start + 3 + 1) name) (name_class name is) none))
 
-pub record MoreSpelt (start : ℕ) (names : List (List ℕ)) : Type 0 where
-  pub placed : List Token
-  pub names_are : token_bytes placed ≡ names
-  pub spelt : Spelt (Rule rules.more_parameters ∷ []) (tokens_at start (flat_map next_parameter names)) (Tokens placed ∷ [])
-
-more_parameters_spelt : (names : List (List ℕ)) (start : ℕ) → AllByRecursion IsName names → MoreSpelt start names
+more_parameters_spelt : (names : List (List ℕ)) (start : ℕ) → AllByRecursion IsName names
+    → NamesSpelt rules.more_parameters start names (pieces_in (Each (λ name. between_parameters <> declaration name) names))
 unfolding language lexicon
 more_parameters_spelt [] start is = record { placed = []; names_are = refl; spelt = by_rule rules.more_parameters (0, omega arith, refl) none }
 more_parameters_spelt (name ∷ names) start is =
@@ -132,12 +125,7 @@ more_parameters_spelt (name ∷ names) start is =
       spelt = by_rule rules.more_parameters (1, omega arith, refl) (by_token (at start (codes ",")) refl (then (parameter_spelt from name is.0) more.spelt));
     }
 
-pub record ParametersSpelt (start : ℕ) (names : List (List ℕ)) : Type 0 where
-  pub placed : List Token
-  pub names_are : token_bytes placed ≡ names
-  pub spelt : Spelt (Rule rules.parameters ∷ []) (tokens_at start (parameters_pieces names)) (Tokens placed ∷ [])
-
-parameters_spelt : (names : List (List ℕ)) (start : ℕ) → AllByRecursion IsName names → ParametersSpelt start names
+parameters_spelt : (names : List (List ℕ)) (start : ℕ) → AllByRecursion IsName names → NamesSpelt rules.parameters start names (pieces_in (parameters_layout names))
 unfolding language lexicon
 parameters_spelt [] start is = record { placed = []; names_are = refl; spelt = by_rule rules.parameters (1, omega arith, refl) (by_token (at start (codes "void")) refl none) }
 parameters_spelt (name ∷ names) start is =
@@ -151,39 +139,31 @@ parameters_spelt (name ∷ names) start is =
 -- ---- locals
 
 local_spelt : (start : ℕ) (name : List ℕ) → IsName name
-    → Spelt (Rule rules.local ∷ []) (tokens_at start (local_pieces name)) (AToken (at (start + 1 + 1 + 3 + 1) name) ∷ [])
+    → Spelt (Rule rules.local ∷ []) (tokens_at start (pieces_in (local_line name))) (AToken (at (start + 1 + 1 + 3 + 1) name) ∷ [])
 unfolding language lexicon
 local_spelt start name is = by_rule rules.local (0, omega arith, refl) (by_token _ refl (by_token (at (start + 1 + 1 + 3 + 1) name) (name_class name is) (by_token _ refl none)))
 
-pub record LocalsSpelt (start : ℕ) (names : List (List ℕ)) (pieces : List Piece) : Type 0 where
-  pub placed : List Token
-  pub names_are : token_bytes placed ≡ names
-  pub spelt : Spelt (Rule rules.locals ∷ []) (tokens_at start pieces) (Tokens placed ∷ [])
-
-locals_spelt : (names : List (List ℕ)) (start : ℕ) → AllByRecursion IsName names → LocalsSpelt start names (flat_map local_pieces names)
+locals_spelt : (names : List (List ℕ)) (start : ℕ) → AllByRecursion IsName names → NamesSpelt rules.locals start names (pieces_in (Each local_line names))
 unfolding language
 locals_spelt [] start is = record { placed = []; names_are = refl; spelt = by_rule rules.locals (0, omega arith, refl) none }
 locals_spelt (name ∷ names) start is =
     let here = at (start + 1 + 1 + 3 + 1) name in
-    let more = locals_spelt names (start + length (bytes_of (local_pieces name))) is.1 in
+    let more = locals_spelt names (start + length (bytes_of (pieces_in (local_line name)))) is.1 in
     record {
       placed = here ∷ more.placed;
       names_are = λ i. name ∷ more.names_are i;
       spelt =
-          by_rule rules.locals (1, omega arith, refl) (in_turn (local_pieces name) (flat_map local_pieces names) start (local_spelt start name is.0) more.spelt);
+          by_rule rules.locals (1, omega arith, refl) (in_turn (pieces_in (local_line name)) (pieces_in (Each local_line names)) start (local_spelt start name is.0) more.spelt);
     }
 
-local_lines_spelt : (names : List (List ℕ)) (start : ℕ) → AllByRecursion IsName names → LocalsSpelt start names (local_line_pieces names)
+local_lines_spelt : (names : List (List ℕ)) (start : ℕ) → AllByRecursion IsName names → NamesSpelt rules.locals start names (pieces_in (local_lines names))
 local_lines_spelt [] start is = locals_spelt [] start is
 local_lines_spelt (name ∷ names) start is =
     let l = locals_spelt (name ∷ names) start is in
     record {
       placed = l.placed;
       names_are = l.names_are;
-      spelt =
-          subst (λ tokens. Spelt (Rule rules.locals ∷ []) tokens (Tokens l.placed ∷ []))
-          (sym (tokens_append (flat_map local_pieces (name ∷ names)) (Blank 10 ∷ []) start ∙ append-nil (tokens_at start (flat_map local_pieces (name ∷ names)))))
-          l.spelt;
+      spelt = in_turn (pieces_in (Each local_line (name ∷ names))) (pieces_in Newline) start l.spelt none;
     }
 
 -- ---- the step
@@ -194,7 +174,7 @@ record HeadSpelt (start : ℕ) (of : CUnit) : Type 0 where
   name_is : name.bytes ≡ of.step
   names_are : token_bytes placed ≡ of.parameters
   spelt : Spelt (Class word_int ∷ Class plain_name ∷ Class open_parenthesis ∷ Rule rules.parameters ∷ Class close_parenthesis ∷ Class open_brace ∷ [])
-      (tokens_at start (head_pieces of)) (AToken name ∷ Tokens placed ∷ [])
+      (tokens_at start (pieces_in (head (codes "int") of.step (parameters_layout of.parameters)))) (AToken name ∷ Tokens placed ∷ [])
 
 head_spelt : (start : ℕ) (of : CUnit) → IsSpellable of → HeadSpelt start of
 unfolding lexicon
@@ -208,14 +188,14 @@ head_spelt start of is =
       name_is = refl;
       names_are = p.names_are;
       spelt =
-          by_token _ refl (by_token name (name_class of.step is.step) (by_token _ refl (in_turn (parameters_pieces of.parameters) _ from p.spelt (by_token _ refl (by_token _ refl none)))));
+          by_token _ refl (by_token name (name_class of.step is.step) (by_token _ refl (in_turn (pieces_in (parameters_layout of.parameters)) _ from p.spelt (by_token _ refl (by_token _ refl none)))));
     }
 
 record EndSpelt (start : ℕ) (of : CUnit) : Type 0 where
   placed : PlacedReturned
   end : Token
   returned_is : returned_of placed ≡ of.returned
-  spelt : Spelt (Class word_return ∷ Rule rules.returned ∷ Class semicolon ∷ Class close_brace ∷ []) (tokens_at start (end_pieces of))
+  spelt : Spelt (Class word_return ∷ Rule rules.returned ∷ Class semicolon ∷ Class close_brace ∷ []) (tokens_at start (pieces_in (end_lines (returned_layout of.returned))))
       (AReturned placed ∷ AToken end ∷ [])
 
 end_spelt : (start : ℕ) (of : CUnit) → IsSpellable of → EndSpelt start of
@@ -223,14 +203,14 @@ unfolding lexicon
 end_spelt start of is =
     let from = start + 1 + 1 + 6 + 1 in
     let r = returned_spelt from of.returned is.returned in
-    let behind = from + length (bytes_of (returned_pieces of.returned)) in
+    let behind = from + length (bytes_of (pieces_in (returned_layout of.returned))) in
     let end = at (behind + 1 + 1) (codes "}") in
     record {
       placed = r.placed;
       end = end;
       returned_is = r.returned_is;
       spelt =
-          by_token _ refl (in_turn (returned_pieces of.returned) _ from r.spelt (by_token _ refl (by_token end refl none)));
+          by_token _ refl (in_turn (pieces_in (returned_layout of.returned)) _ from r.spelt (by_token _ refl (by_token end refl none)));
     }
 
 record StepSpelt (start : ℕ) (of : CUnit) : Type 0 where
@@ -244,14 +224,16 @@ record StepSpelt (start : ℕ) (of : CUnit) : Type 0 where
   locals_are : token_bytes locals ≡ of.locals
   statements_are : map statement_of statements ≡ of.statements
   returned_is : returned_of returned ≡ of.returned
-  spelt : Spelt (Rule rules.step ∷ []) (tokens_at start (step_pieces of)) (AStep name parameters locals statements returned ∷ [])
+  spelt : Spelt (Rule rules.step ∷ []) (tokens_at start (pieces_in (step_of of))) (AStep name parameters locals statements returned ∷ [])
 
 step_spelt : (start : ℕ) (of : CUnit) → IsSpellable of → StepSpelt start of
 unfolding language
 step_spelt start of is =
-    let statements = flat_map statement_pieces of.statements in
-    let second = start + length (bytes_of (head_pieces of)) in
-    let third = second + length (bytes_of (local_line_pieces of.locals)) in
+    let statements = pieces_in (Each statement_line of.statements) in
+    let first = pieces_in (head (codes "int") of.step (parameters_layout of.parameters)) in
+    let locals = pieces_in (local_lines of.locals) in
+    let second = start + length (bytes_of first) in
+    let third = second + length (bytes_of locals) in
     let fourth = third + length (bytes_of statements) in
     let head = head_spelt start of is in
     let l = local_lines_spelt of.locals second is.locals in
@@ -269,24 +251,25 @@ step_spelt start of is =
       statements_are = s.statements_are;
       returned_is = end.returned_is;
       spelt =
-          by_rule rules.step (0, omega arith, refl) (in_turn (head_pieces of) _ start head.spelt
-          (in_turn (local_line_pieces of.locals) _ second l.spelt (in_turn statements _ third s.spelt end.spelt)));
+          by_rule rules.step (0, omega arith, refl) (in_turn first _ start head.spelt
+          (in_turn locals _ second l.spelt (in_turn statements _ third s.spelt end.spelt)));
     }
 
 -- ---- units
 
 module _ (of : CUnit) (is : IsSpellable of) where
   abbrev pieces_from : List (List ℕ) → List Piece
-  pieces_from statics = flat_map static_pieces statics ++ (reset_pieces of ++ step_pieces of)
+  pieces_from statics = pieces_in (Each static_line statics <> reset_lines of.reset of.assignments <> step_of of)
 
   unit_by_statics : (names : List (List ℕ)) → of.statics ≡ names → AllByRecursion IsName names → 0 < length names
       → (placed : PlacedUnit) × (unit_of placed ≡ of) × Spelt (Rule rules.unit ∷ []) (tokens_at 0 (pieces_from names)) (AUnit placed ∷ [])
   unfolding language static_at
   unit_by_statics [] same are some = absurd (omega (arith, some))
   unit_by_statics (name ∷ names) same are some =
-      let first = 0 + length (bytes_of (static_pieces name)) in
-      let second = first + length (bytes_of (flat_map static_pieces names)) in
-      let third = second + length (bytes_of (reset_pieces of)) in
+      let first = 0 + length (bytes_of (pieces_in (static_line name))) in
+      let second = first + length (bytes_of (pieces_in (Each static_line names))) in
+      let reset = pieces_in (reset_lines of.reset of.assignments) in
+      let third = second + length (bytes_of reset) in
       let more = more_statics_spelt names first are.1 in
       let r = reset_spelt second of is in
       let s = step_spelt third of is in
@@ -313,16 +296,16 @@ module _ (of : CUnit) (is : IsSpellable of) where
           statements = s.statements_are i;
           returned = s.returned_is i;
         }),
-        by_rule rules.unit (0, omega arith, refl) (in_turn (static_pieces name) (flat_map static_pieces names ++ (reset_pieces of ++ step_pieces of)) 0 (static_spelt 0 name are.0)
-            (in_turn (flat_map static_pieces names) _ first more.spelt (in_turn (reset_pieces of) (step_pieces of) second r.spelt s.spelt))),
+        by_rule rules.unit (0, omega arith, refl) (in_turn (pieces_in (static_line name)) (pieces_from names) 0 (static_spelt 0 name are.0)
+            (in_turn (pieces_in (Each static_line names)) _ first more.spelt (in_turn reset (pieces_in (step_of of)) second r.spelt s.spelt))),
       )
 
   -- the text spells the unit, with each word where it stands
   pub text_spells : (placed : PlacedUnit) × Spells (text_of of) placed × (unit_of placed ≡ of)
-  unfolding pieces_of language
+  unfolding layout_of text_of language
   text_spells =
       let (placed, same, spelt) = unit_by_statics of.statics refl is.statics is.some_static in (
         placed,
-        laid_stands orderly (pieces_of of) 10 (unit_laid of 10 is) (AUnit placed) spelt (text_of of) (text_in_pieces of),
+        laid_stands orderly (layout_of of) 10 (unit_laid of 10 is) (AUnit placed) spelt,
         same,
       )

@@ -8,7 +8,7 @@ use Rattle.dcv_c.specs.Tree.{CUnit, Statement, Assign, When, Plain, Chosen, Cons
 use Rattle.dcv_c.specs.Placed.{PlacedUnit, PlacedAssign, PlacedPlain, PlacedReturned, PlacedFixed, PlacedRead, PlacedAssignment, unit_of}
 use Rattle.dcv_c.specs.Meaning.{unit_accepts, returned_number, returned_after, zeros}
 use Rattle.dcv_c.specs.Rules.{judged, words_of, IsNamesFault, IsWellNamed}
-use Rattle.dcv_c.specs.Layout.{text_of}
+use Rattle.dcv_c.specs.Layout.{layout_of, text_of}
 use Rattle.dcv_c.specs.Observer.{observer_of}
 
 -- ---- files of automata
@@ -29,7 +29,7 @@ nothing_file =
 nothing_text : text_of (observer_of nothing_file)
     ≡ codes "static int st;\n\nvoid observer_reset(void)\n{\n  st = 0;\n}\n\nint observer_step(void)\n{\n  int nx;\n\n"
     ++ codes "  nx = 0;\n  if (st == 0) nx = 0;\n  st = nx;\n  return 0;\n}\n"
-unfolding nothing_file observer_of text_of digits
+unfolding nothing_file observer_of text_of layout_of digits
 nothing_text = refl
 
 -- a variable that is true throughout
@@ -48,7 +48,7 @@ throughout_file =
 throughout_text : text_of (observer_of throughout_file)
     ≡ codes "static int st;\n\nvoid observer_reset(void)\n{\n  st = 0;\n}\n\nint observer_step(int v_p)\n{\n  int nx;\n  int n0;\n\n"
     ++ codes "  nx = 0;\n  n0 = v_p ? 0 : 1;\n  if (st == 0) nx = n0;\n  if (st == 1) nx = 1;\n  st = nx;\n  return nx == 0;\n}\n"
-unfolding throughout_file observer_of text_of digits
+unfolding throughout_file observer_of text_of layout_of digits
 throughout_text = refl
 
 throughout_is_well_named : IsWellNamed (observer_of throughout_file)
@@ -78,7 +78,7 @@ two_text : text_of (observer_of (record {
     ≡ codes "static int st;\n\nvoid observer_reset(void)\n{\n  st = 0;\n}\n\nint observer_step(int v_p, int v_q)\n{\n  int nx;\n  int n0;\n  int n1;\n\n"
     ++ codes "  nx = 0;\n  n0 = v_q ? 1 : 2;\n  n1 = v_p ? n0 : 0;\n  if (st == 0) nx = n1;\n  if (st == 1) nx = 1;\n  if (st == 2) nx = n0;\n  st = nx;\n"
     ++ codes "  return nx == 0 || nx == 2;\n}\n"
-unfolding observer_of text_of digits
+unfolding observer_of text_of layout_of digits
 two_text = refl
 
 -- ---- `static int s; void r(void) { s = 0; } int f(int a) { int x; .. return ..; }`

@@ -5,7 +5,6 @@ pub mod LeftOver
 pub mod TokenClasses
 pub mod EachTree
 pub mod JudgedWords
-pub mod UnitPieces
 pub mod LaidOut
 pub mod Derived
 pub mod DerivedUnits

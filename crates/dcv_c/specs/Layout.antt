@@ -15,7 +15,8 @@
 --       return nx == 0 || nx == 1;
 --     }
 -- and where there are no parameters `void` stands for them, and where there are no locals the empty line after them is not there.
---     statement_line statement       a line of a statement
+--     head kind name parameters      the lines of a function before its body
+--     statement_line statement       the line of a statement
 --     layout_of unit                 the layout
 --     text_of unit                   its bytes
 use Rattle.std.specs.Prelude.{ℕ, List, [], ◌∷◌, codes}
@@ -28,7 +29,7 @@ use Rattle.dcv_c.specs.Tree.{Returned, Fixed, Read, Tested, Assignment, CUnit}
 abbrev indent : Layout
 indent = Space <> Space
 
-abbrev end : Layout
+abbrev pub end : Layout
 end = Word (codes ";") <> Newline
 
 -- ---- statements
@@ -46,61 +47,81 @@ right_layout (Plain item) = Word (item_text item)
 right_layout (Chosen condition item otherwise) =
     condition_layout condition <+> Word (codes "?") <+> Word (item_text item) <+> Word (codes ":") <+> Word (item_text otherwise)
 
+-- a line that sets a name
+abbrev pub set_line : List ℕ → Layout → Layout
+set_line left right = indent <> Word left <+> Word (codes "=") <+> right <> end
+
 abbrev pub statement_line : Statement → Layout
-statement_line (Assign left right) = indent <> Word left <+> Word (codes "=") <+> right_layout right <> end
+statement_line (Assign left right) = set_line left (right_layout right)
 statement_line (When condition left item) =
     indent <> Word (codes "if") <+> Word (codes "(") <> condition_layout condition <> Word (codes ")") <+> Word left <+> Word (codes "=") <+> Word (item_text item) <> end
 
 abbrev pub test_layout : Test → Layout
-test_layout test = Word test.name <+> Word (codes "==") <+> Word (decimal test.number)
+test_layout test = condition_layout (Equals test.name test.number)
+
+abbrev pub between_tests : Layout
+between_tests = Space <> Word (codes "||") <> Space
 
 abbrev pub returned_layout : Returned → Layout
 returned_layout (Fixed number) = Word (decimal number)
 returned_layout (Read name) = Word name
-returned_layout (Tested tests) = Joined (Space <> Word (codes "||") <> Space) test_layout tests
+returned_layout (Tested tests) = Joined between_tests test_layout tests
 
 -- ---- declarations
 
+abbrev pub declaration : List ℕ → Layout
+declaration name = Word (codes "int") <+> Word name
+
 abbrev pub static_line : List ℕ → Layout
-static_line name = Word (codes "static") <+> Word (codes "int") <+> Word name <> end
-
-abbrev pub assignment_line : Assignment → Layout
-assignment_line assignment = indent <> Word assignment.name <+> Word (codes "=") <+> Word (decimal assignment.number) <> end
-
-abbrev pub parameter_layout : List ℕ → Layout
-parameter_layout name = Word (codes "int") <+> Word name
-
-abbrev pub parameters_layout : List (List ℕ) → Layout
-parameters_layout [] = Word (codes "void")
-parameters_layout (name ∷ names) = Joined (Word (codes ",") <> Space) parameter_layout (name ∷ names)
+static_line name = Word (codes "static") <+> declaration name <> end
 
 abbrev pub local_line : List ℕ → Layout
-local_line name = indent <> Word (codes "int") <+> Word name <> end
+local_line name = indent <> declaration name <> end
 
 abbrev pub local_lines : List (List ℕ) → Layout
 local_lines [] = Empty
 local_lines (name ∷ names) = Each local_line (name ∷ names) <> Newline
 
+abbrev pub between_parameters : Layout
+between_parameters = Word (codes ",") <> Space
+
+abbrev pub parameters_layout : List (List ℕ) → Layout
+parameters_layout [] = Word (codes "void")
+parameters_layout (name ∷ names) = Joined between_parameters declaration (name ∷ names)
+
+-- ---- functions
+
+-- an empty line, and the next one up to the parameters
+abbrev pub beginning : List ℕ → List ℕ → Layout
+beginning kind name = Newline <> Word kind <+> Word name <> Word (codes "(")
+
+abbrev pub opening : Layout
+opening = Word (codes ")") <> Newline <> Word (codes "{") <> Newline
+
+abbrev pub head : List ℕ → List ℕ → Layout → Layout
+head kind name parameters = beginning kind name <> parameters <> opening
+
+abbrev pub closing : Layout
+closing = Word (codes "}") <> Newline
+
+abbrev pub assignment_line : Assignment → Layout
+assignment_line assignment = set_line assignment.name (Word (decimal assignment.number))
+
+abbrev pub reset_lines : List ℕ → List Assignment → Layout
+reset_lines name assignments = head (codes "void") name (parameters_layout []) <> Each assignment_line assignments <> closing
+
+abbrev pub end_lines : Layout → Layout
+end_lines returned = indent <> Word (codes "return") <+> returned <> end <> closing
+
+abbrev pub step_lines : List ℕ → List (List ℕ) → List (List ℕ) → List Statement → Returned → Layout
+step_lines name parameters locals statements returned =
+    head (codes "int") name (parameters_layout parameters) <> local_lines locals <> Each statement_line statements <> end_lines (returned_layout returned)
+
 -- ---- the unit
 
-abbrev pub reset_lines : CUnit → Layout
-reset_lines unit =
-    Newline <> Word (codes "void") <+> Word unit.reset <> Word (codes "(") <> Word (codes "void") <> Word (codes ")") <> Newline
-    <> Word (codes "{") <> Newline <> Each assignment_line unit.assignments <> Word (codes "}") <> Newline
-
-abbrev pub step_head : CUnit → Layout
-step_head unit =
-    Newline <> Word (codes "int") <+> Word unit.step <> Word (codes "(") <> parameters_layout unit.parameters <> Word (codes ")") <> Newline
-    <> Word (codes "{") <> Newline
-
-abbrev pub step_end : CUnit → Layout
-step_end unit = indent <> Word (codes "return") <+> returned_layout unit.returned <> end <> Word (codes "}") <> Newline
-
-abbrev pub step_lines : CUnit → Layout
-step_lines unit = step_head unit <> local_lines unit.locals <> Each statement_line unit.statements <> step_end unit
-
 unfoldable pub layout_of : CUnit → Layout
-layout_of unit = Each static_line unit.statics <> reset_lines unit <> step_lines unit
+layout_of unit =
+    Each static_line unit.statics <> reset_lines unit.reset unit.assignments <> step_lines unit.step unit.parameters unit.locals unit.statements unit.returned
 
 unfoldable pub text_of : CUnit → List ℕ
 text_of unit = text_in (layout_of unit)

@@ -1,15 +1,20 @@
 // The text of a unit.
-ghost use Rattle.std.specs.Prelude.{◌≡◌, ◌++◌, ℕ, List, codes, decimal, map, IfOk};
-ghost use Rattle.std.specs.List.{flat_map, join_by};
+ghost use Rattle.std.specs.Prelude.{◌≡◌, ℕ, List, decimal, map, IfOk};
 ghost use Rattle.dcv_io.specs.Putting.{Puts};
 ghost use Rattle.dcv_c.specs.Seen.{name_at, seen_item, seen_condition, seen_right, seen_statement, seen_test, seen_returned, seen_assignment, all_names};
 ghost use Rattle.dcv_c.specs.Placed.{PlacedUnit, unit_of};
 ghost use Rattle.dcv_c.specs.Actions.{Spells};
-ghost use Rattle.dcv_c.specs.Layout.{item_text, condition_text, right_text, statement_line, test_text, returned_text, static_line, assignment_line};
-ghost use Rattle.dcv_c.specs.Layout.{parameter_text, parameters_text, local_line, local_lines, text_of};
+ghost use Rattle.dcv_observer.specs.Layouts.{Word, ◌<>◌, Each, Joined};
+ghost use Rattle.dcv_c.specs.Tree.{Assign, When, Chosen, Equals};
+ghost use Rattle.dcv_c.specs.Layout.{text_in, item_text, condition_layout, right_layout, set_line, statement_line, test_layout, between_tests, returned_layout};
+ghost use Rattle.dcv_c.specs.Layout.{declaration, static_line, local_line, local_lines, parameters_layout, beginning, head, assignment_line, reset_lines, end_lines, step_lines, text_of};
 
 use crate::laws::texts_spell_units;
 use crate::unit::{Assignment, CUnit, Item, Reset, Returned, Right, Statement, Step};
+use crate::words::{
+    BECOMES, CHOICE, CLOSING, COMMA, END, IF, INDENT, INT, IS, NEWLINE, OPENING, OR, OTHERWISE,
+    RETURN, SPACE, STATIC, THEN, VOID,
+};
 use dcv_io::{Target, Text as TextInMemory, put_pieces};
 use dcv_observer::{Condition, Test};
 use dcv_syntax::Text;
@@ -97,113 +102,22 @@ fn put_name<T: Target>(target: &mut T, names: &Names<'_>, place: u32)
 // ---- declarations
 
 fn put_statics<T: Target>(target: &mut T, statics: &[Text])
-    ensures { Puts (T.standing target.old) (T.standing target.new) (flat_map static_line statics.now) }
+    ensures { Puts (T.standing target.old) (T.standing target.new) (text_in (Each static_line statics.now)) }
 {
     for name in statics {
         put_static(target, name.as_bytes());
     }
 }
 
-fn put_static<T: Target>(target: &mut T, name: &[u8])
-    ensures { Puts (T.standing target.old) (T.standing target.new) (static_line name.now) }
+pub(crate) fn put_static<T: Target>(target: &mut T, name: &[u8])
+    ensures { Puts (T.standing target.old) (T.standing target.new) (text_in (static_line name.now)) }
 {
-    put_pieces(target, &[b"static int ", name, b";\n"]);
-}
-
-// The function that sets the statics, after an empty line.
-fn put_reset<T: Target>(target: &mut T, names: &Names<'_>, reset: &Reset)
-    ensures { Puts (T.standing target.old) (T.standing target.new) (codes "\nvoid " ++ (reset.now.name ++ (codes "(void)\n{\n"
-        ++ (flat_map assignment_line (map (seen_assignment names.now) reset.now.assignments.items) ++ codes "}\n")))) }
-{
-    put_reset_head(target, reset.name.as_bytes());
-    put_assignments(target, names, &reset.assignments);
-    target.put(b"}\n");
-}
-
-fn put_reset_head<T: Target>(target: &mut T, name: &[u8])
-    ensures { Puts (T.standing target.old) (T.standing target.new) (codes "\nvoid " ++ (name.now ++ codes "(void)\n{\n")) }
-{
-    put_pieces(target, &[b"\nvoid ", name, b"(void)\n{\n"]);
-}
-
-fn put_assignments<T: Target>(target: &mut T, names: &Names<'_>, assignments: &[Assignment])
-    ensures { Puts (T.standing target.old) (T.standing target.new) (flat_map assignment_line (map (seen_assignment names.now) assignments.now)) }
-{
-    for assignment in assignments {
-        put_assignment(target, names, *assignment);
-    }
-}
-
-fn put_assignment<T: Target>(target: &mut T, names: &Names<'_>, assignment: Assignment)
-    ensures { Puts (T.standing target.old) (T.standing target.new) (assignment_line (seen_assignment names.now assignment)) }
-{
-    put_left(target, names, assignment.name);
-    put_number(target, assignment.number);
-    target.put(b";\n");
-}
-
-// A line up to its right side.
-fn put_left<T: Target>(target: &mut T, names: &Names<'_>, left: u32)
-    ensures { Puts (T.standing target.old) (T.standing target.new) (codes "  " ++ (name_at names.now left ++ codes " = ")) }
-{
-    target.put(b"  ");
-    put_name(target, names, left);
-    target.put(b" = ");
-}
-
-// The function that makes a step, after an empty line.
-fn put_step<T: Target>(target: &mut T, names: &Names<'_>, step: &Step)
-    ensures { Puts (T.standing target.old) (T.standing target.new) ((codes "\nint " ++ (step.now.name ++ (codes "(" ++ (parameters_text step.now.parameters.items ++ codes ")\n{\n"))))
-        ++ (local_lines step.now.locals.items ++ (flat_map statement_line (map (seen_statement names.now) step.now.statements.items)
-        ++ (codes "  return " ++ (returned_text (seen_returned names.now step.now.returned) ++ codes ";\n}\n"))))) }
-{
-    put_head(target, step.name.as_bytes(), &step.parameters);
-    put_locals(target, &step.locals);
-    put_statements(target, names, &step.statements);
-    target.put(b"  return ");
-    put_returned(target, names, &step.returned);
-    target.put(b";\n}\n");
-}
-
-// The lines before those of the locals.
-fn put_head<T: Target>(target: &mut T, name: &[u8], parameters: &[Text])
-    ensures { Puts (T.standing target.old) (T.standing target.new) (codes "\nint " ++ (name.now ++ (codes "(" ++ (parameters_text parameters.now ++ codes ")\n{\n")))) }
-{
-    put_opening(target, name);
-    put_parameters(target, parameters);
-    target.put(b")\n{\n");
-}
-
-// The empty line, and the next one up to the parameters.
-fn put_opening<T: Target>(target: &mut T, name: &[u8])
-    ensures { Puts (T.standing target.old) (T.standing target.new) (codes "\nint " ++ (name.now ++ codes "(")) }
-{
-    put_pieces(target, &[b"\nint ", name, b"("]);
-}
-
-// The parameters, with something between every two, or `void` where there are none.
-fn put_parameters<T: Target>(target: &mut T, parameters: &[Text])
-    ensures { Puts (T.standing target.old) (T.standing target.new) (parameters_text parameters.now) }
-{
-    let Some((first, others)) = parameters.split_first() else {
-        return target.put(b"void");
-    };
-    put_parameter(target, b"", first.as_bytes());
-    for parameter in others {
-        put_parameter(target, b", ", parameter.as_bytes());
-    }
-}
-
-// A parameter, after what stands between it and the one before.
-fn put_parameter<T: Target>(target: &mut T, between: &[u8], name: &[u8])
-    ensures { Puts (T.standing target.old) (T.standing target.new) (between.now ++ parameter_text name.now) }
-{
-    put_pieces(target, &[between, b"int ", name]);
+    put_pieces(target, &[STATIC, INT, SPACE, name, END]);
 }
 
 // The lines of the locals and the empty line after them, where there are any.
 fn put_locals<T: Target>(target: &mut T, locals: &[Text])
-    ensures { Puts (T.standing target.old) (T.standing target.new) (local_lines locals.now) }
+    ensures { Puts (T.standing target.old) (T.standing target.new) (text_in (local_lines locals.now)) }
 {
     if locals.is_empty() {
         return;
@@ -211,19 +125,110 @@ fn put_locals<T: Target>(target: &mut T, locals: &[Text])
     for name in locals {
         put_local(target, name.as_bytes());
     }
-    target.put(b"\n");
+    target.put(NEWLINE);
 }
 
-fn put_local<T: Target>(target: &mut T, name: &[u8])
-    ensures { Puts (T.standing target.old) (T.standing target.new) (local_line name.now) }
+pub(crate) fn put_local<T: Target>(target: &mut T, name: &[u8])
+    ensures { Puts (T.standing target.old) (T.standing target.new) (text_in (local_line name.now)) }
 {
-    put_pieces(target, &[b"  int ", name, b";\n"]);
+    put_pieces(target, &[INDENT, INT, SPACE, name, END]);
+}
+
+// ---- functions
+
+// The lines before the body.
+pub(crate) fn put_head<T: Target>(target: &mut T, kind: &[u8], name: &[u8], parameters: &[Text])
+    ensures { Puts (T.standing target.old) (T.standing target.new) (text_in (head kind.now name.now (parameters_layout parameters.now))) }
+{
+    put_beginning(target, kind, name);
+    put_parameters(target, parameters);
+    target.put(OPENING);
+}
+
+// The same up to the parameters.
+pub(crate) fn put_beginning<T: Target>(target: &mut T, kind: &[u8], name: &[u8])
+    ensures { Puts (T.standing target.old) (T.standing target.new) (text_in (beginning kind.now name.now)) }
+{
+    put_pieces(target, &[NEWLINE, kind, SPACE, name, b"("]);
+}
+
+// The parameters, with something between every two, or `void` where there are none.
+fn put_parameters<T: Target>(target: &mut T, parameters: &[Text])
+    ensures { Puts (T.standing target.old) (T.standing target.new) (text_in (parameters_layout parameters.now)) }
+{
+    let Some((first, others)) = parameters.split_first() else {
+        return target.put(VOID);
+    };
+    put_parameter(target, b"", first.as_bytes());
+    for parameter in others {
+        put_parameter(target, COMMA, parameter.as_bytes());
+    }
+}
+
+// A parameter, after what stands between it and the one before.
+fn put_parameter<T: Target>(target: &mut T, between: &[u8], name: &[u8])
+    ensures { Puts (T.standing target.old) (T.standing target.new) (text_in (Word between.now <> declaration name.now)) }
+{
+    put_pieces(target, &[between, INT, SPACE, name]);
+}
+
+// The function that sets the statics.
+fn put_reset<T: Target>(target: &mut T, names: &Names<'_>, reset: &Reset)
+    ensures { Puts (T.standing target.old) (T.standing target.new)
+        (text_in (reset_lines reset.now.name (map (seen_assignment names.now) reset.now.assignments.items))) }
+{
+    put_head(target, VOID, reset.name.as_bytes(), &[]);
+    put_assignments(target, names, &reset.assignments);
+    target.put(CLOSING);
+}
+
+fn put_assignments<T: Target>(target: &mut T, names: &Names<'_>, assignments: &[Assignment])
+    ensures { Puts (T.standing target.old) (T.standing target.new) (text_in (Each assignment_line (map (seen_assignment names.now) assignments.now))) }
+{
+    for assignment in assignments {
+        put_assignment(target, names, *assignment);
+    }
+}
+
+fn put_assignment<T: Target>(target: &mut T, names: &Names<'_>, assignment: Assignment)
+    ensures { Puts (T.standing target.old) (T.standing target.new) (text_in (assignment_line (seen_assignment names.now assignment))) }
+{
+    let mut digits = Buffer::new();
+    let number = digits.format(assignment.number).as_bytes();
+    put_set(target, names.at(assignment.name), number);
+}
+
+// `left = right;`
+pub(crate) fn put_set<T: Target>(target: &mut T, left: &[u8], right: &[u8])
+    ensures { Puts (T.standing target.old) (T.standing target.new) (text_in (set_line left.now (Word right.now))) }
+{
+    put_pieces(target, &[INDENT, left, BECOMES, right, END]);
+}
+
+// The function that makes a step.
+fn put_step<T: Target>(target: &mut T, names: &Names<'_>, step: &Step)
+    ensures { Puts (T.standing target.old) (T.standing target.new) (text_in (step_lines step.now.name step.now.parameters.items step.now.locals.items
+        (map (seen_statement names.now) step.now.statements.items) (seen_returned names.now step.now.returned))) }
+{
+    put_head(target, INT, step.name.as_bytes(), &step.parameters);
+    put_locals(target, &step.locals);
+    put_statements(target, names, &step.statements);
+    put_end(target, names, &step.returned);
+}
+
+// What a step returns, and its end.
+fn put_end<T: Target>(target: &mut T, names: &Names<'_>, returned: &Returned)
+    ensures { Puts (T.standing target.old) (T.standing target.new) (text_in (end_lines (returned_layout (seen_returned names.now returned.now)))) }
+{
+    put_pieces(target, &[INDENT, RETURN]);
+    put_returned(target, names, returned);
+    put_pieces(target, &[END, CLOSING]);
 }
 
 // ---- statements
 
 fn put_statements<T: Target>(target: &mut T, names: &Names<'_>, statements: &[Statement])
-    ensures { Puts (T.standing target.old) (T.standing target.new) (flat_map statement_line (map (seen_statement names.now) statements.now)) }
+    ensures { Puts (T.standing target.old) (T.standing target.new) (text_in (Each statement_line (map (seen_statement names.now) statements.now))) }
 {
     for statement in statements {
         put_statement(target, names, *statement);
@@ -231,7 +236,7 @@ fn put_statements<T: Target>(target: &mut T, names: &Names<'_>, statements: &[St
 }
 
 fn put_statement<T: Target>(target: &mut T, names: &Names<'_>, statement: Statement)
-    ensures { Puts (T.standing target.old) (T.standing target.new) (statement_line (seen_statement names.now statement)) }
+    ensures { Puts (T.standing target.old) (T.standing target.new) (text_in (statement_line (seen_statement names.now statement))) }
 {
     match statement {
         Statement::Assign(left, right) => put_assign(target, names, left, right),
@@ -241,11 +246,13 @@ fn put_statement<T: Target>(target: &mut T, names: &Names<'_>, statement: Statem
 
 // `left = right;`
 fn put_assign<T: Target>(target: &mut T, names: &Names<'_>, left: u32, right: Right)
-    ensures { Puts (T.standing target.old) (T.standing target.new) (codes "  " ++ (name_at names.now left ++ (codes " = " ++ (right_text (seen_right names.now right) ++ codes ";\n")))) }
+    ensures { Puts (T.standing target.old) (T.standing target.new) (text_in (statement_line (Assign (name_at names.now left) (seen_right names.now right)))) }
 {
-    put_left(target, names, left);
+    target.put(INDENT);
+    put_name(target, names, left);
+    target.put(BECOMES);
     put_right(target, names, right);
-    target.put(b";\n");
+    target.put(END);
 }
 
 // `if (condition) left = item;`
@@ -256,20 +263,20 @@ fn put_when<T: Target>(
     left: u32,
     item: Item,
 )
-    ensures { Puts (T.standing target.old) (T.standing target.new) (codes "  if (" ++ (condition_text (seen_condition names.now condition) ++ (codes ") " ++ (name_at names.now left
-        ++ (codes " = " ++ (item_text (seen_item names.now item) ++ codes ";\n")))))) }
+    ensures { Puts (T.standing target.old) (T.standing target.new)
+        (text_in (statement_line (When (seen_condition names.now condition) (name_at names.now left) (seen_item names.now item)))) }
 {
-    target.put(b"  if (");
+    put_pieces(target, &[INDENT, IF]);
     put_condition(target, names, condition);
-    target.put(b") ");
+    target.put(THEN);
     put_name(target, names, left);
-    target.put(b" = ");
+    target.put(BECOMES);
     put_item(target, names, item);
-    target.put(b";\n");
+    target.put(END);
 }
 
 fn put_right<T: Target>(target: &mut T, names: &Names<'_>, right: Right)
-    ensures { Puts (T.standing target.old) (T.standing target.new) (right_text (seen_right names.now right)) }
+    ensures { Puts (T.standing target.old) (T.standing target.new) (text_in (right_layout (seen_right names.now right))) }
 {
     match right {
         Right::Plain(item) => put_item(target, names, item),
@@ -287,70 +294,62 @@ fn put_chosen<T: Target>(
     item: Item,
     otherwise: Item,
 )
-    ensures { Puts (T.standing target.old) (T.standing target.new) (condition_text (seen_condition names.now condition) ++ (codes " ? " ++ (item_text (seen_item names.now item)
-        ++ (codes " : " ++ item_text (seen_item names.now otherwise))))) }
+    ensures { Puts (T.standing target.old) (T.standing target.new)
+        (text_in (right_layout (Chosen (seen_condition names.now condition) (seen_item names.now item) (seen_item names.now otherwise)))) }
 {
     put_condition(target, names, condition);
-    target.put(b" ? ");
+    target.put(CHOICE);
     put_item(target, names, item);
-    target.put(b" : ");
+    target.put(OTHERWISE);
     put_item(target, names, otherwise);
 }
 
 fn put_condition<T: Target>(target: &mut T, names: &Names<'_>, condition: Condition)
-    ensures { Puts (T.standing target.old) (T.standing target.new) (condition_text (seen_condition names.now condition)) }
+    ensures { Puts (T.standing target.old) (T.standing target.new) (text_in (condition_layout (seen_condition names.now condition))) }
 {
     match condition {
         Condition::Holds(name) => put_name(target, names, name),
-        Condition::Equals(name, number) => put_equal(target, names, name, number),
+        Condition::Equals(name, number) => put_equal(target, names.at(name), number),
     }
 }
 
 // `name == number`
-fn put_equal<T: Target>(target: &mut T, names: &Names<'_>, name: u32, number: u16)
-    ensures { Puts (T.standing target.old) (T.standing target.new) (name_at names.now name ++ (codes " == " ++ decimal number)) }
-{
-    put_name(target, names, name);
-    put_compared(target, number);
-}
-
-// ` == number`
-fn put_compared<T: Target>(target: &mut T, number: u16)
-    ensures { Puts (T.standing target.old) (T.standing target.new) (codes " == " ++ decimal number) }
+fn put_equal<T: Target>(target: &mut T, name: &[u8], number: u16)
+    ensures { Puts (T.standing target.old) (T.standing target.new) (text_in (condition_layout (Equals name.now number))) }
 {
     let mut digits = Buffer::new();
-    put_pieces(target, &[b" == ", digits.format(number).as_bytes()]);
+    put_pieces(target, &[name, IS, digits.format(number).as_bytes()]);
 }
 
 fn put_returned<T: Target>(target: &mut T, names: &Names<'_>, returned: &Returned)
-    ensures { Puts (T.standing target.old) (T.standing target.new) (returned_text (seen_returned names.now returned.now)) }
+    ensures { Puts (T.standing target.old) (T.standing target.new) (text_in (returned_layout (seen_returned names.now returned.now))) }
 {
     match returned {
         Returned::Fixed(number) => put_number(target, *number),
-        Returned::Read(name) => target.put(names.at(*name)),
+        Returned::Read(name) => put_name(target, names, *name),
         Returned::Tested(tests) => put_tests(target, names, tests),
     }
 }
 
 // The tests, with `||` between every two.
 fn put_tests<T: Target>(target: &mut T, names: &Names<'_>, tests: &[Test])
-    ensures { Puts (T.standing target.old) (T.standing target.new) (join_by test_text (codes " || ") (map (seen_test names.now) tests.now)) }
+    ensures { Puts (T.standing target.old) (T.standing target.new) (text_in (Joined between_tests test_layout (map (seen_test names.now) tests.now))) }
 {
     let Some((first, others)) = tests.split_first() else {
         return;
     };
     put_test(target, b"", names, *first);
     for test in others {
-        put_test(target, b" || ", names, *test);
+        put_test(target, OR, names, *test);
     }
 }
 
 // `name == number`, after what stands between it and the test before.
 fn put_test<T: Target>(target: &mut T, between: &[u8], names: &Names<'_>, test: Test)
-    ensures { Puts (T.standing target.old) (T.standing target.new) (between.now ++ test_text (seen_test names.now test)) }
+    ensures { Puts (T.standing target.old) (T.standing target.new) (text_in (Word between.now <> test_layout (seen_test names.now test))) }
 {
     target.put(between);
-    put_equal(target, names, test.name, test.number);
+    put_equal(target, names.at(test.name), test.number);
 }
 
 fn put_item<T: Target>(target: &mut T, names: &Names<'_>, item: Item)

@@ -40,6 +40,7 @@ mod layout;
 mod observer;
 mod straight;
 mod unit;
+mod words;
 
 pub use dcv_observer::{Condition, ObsFault, Test};
 pub use layout::{put, text};

@@ -4,6 +4,7 @@ ghost use Rattle.dcv_automaton_file.specs.File.{texts_of};
 ghost use Rattle.dcv_c.specs.Observer.{parameter_name};
 
 use crate::unit::{Assignment, Reset};
+use crate::words::VARIABLE;
 use dcv_syntax::{Name, Text};
 use std::alloc::{AllocError, Global};
 
@@ -34,7 +35,7 @@ fn parameter_text(alloc: Global, name: &Name) -> Result<Text, AllocError>
     ensures { IfOk result (λ text. text ≡ parameter_name name.now.text) }
 {
     let mut bytes = Vec::new(alloc);
-    bytes.extend_from_slice(b"v_")?;
+    bytes.extend_from_slice(VARIABLE)?;
     bytes.extend_from_slice(name.text.as_bytes())?;
     Text::copy_of(alloc, &bytes)
 }

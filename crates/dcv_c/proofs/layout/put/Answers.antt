@@ -1,15 +1,15 @@
-use Rattle.std.proofs.Common.{◌≡◌, ℕ, List, ◌++◌, map, ap, ◌∙◌, codes}
-use Rattle.std.specs.List.{flat_map}
+use Rattle.std.proofs.Common.{◌≡◌, ℕ, List, ◌++◌, map, ap, ◌∙◌}
+use Rattle.dcv_observer.specs.Layouts.{Each}
 use Rattle.dcv_io.proofs.Putting.{puts_both, puts_same}
 use Rattle.dcv_c.specs.Tree.{CUnit}
 use Rattle.dcv_c.specs.Seen.{names_of, all_names, seen_assignment, seen_statement, seen_returned}
-use Rattle.dcv_c.specs.Layout.{static_line, assignment_line, parameters_text, local_lines, statement_line, returned_text, reset_text, step_head, step_end, text_of}
+use Rattle.dcv_c.specs.Layout.{text_in, static_line, reset_lines, step_lines, layout_of, text_of}
 use Rattle.dcv_c.proofs.layout.put.Goals as goal
 
 -- the parts, one after another
-in_turn : (unit : CUnit) (statics reset step : List ℕ) → statics ≡ flat_map static_line unit.statics → reset ≡ reset_text unit
-    → step ≡ step_head unit ++ (local_lines unit.locals ++ (flat_map statement_line unit.statements ++ step_end unit)) → statics ++ (reset ++ step) ≡ text_of unit
-unfolding text_of
+in_turn : (unit : CUnit) (statics reset step : List ℕ) → statics ≡ text_in (Each static_line unit.statics) → reset ≡ text_in (reset_lines unit.reset unit.assignments)
+    → step ≡ text_in (step_lines unit.step unit.parameters unit.locals unit.statements unit.returned) → statics ++ (reset ++ step) ≡ text_of unit
+unfolding text_of layout_of
 in_turn unit statics reset step a b c = λ i. a i ++ (b i ++ c i)
 
 pub returns : goal.returns
@@ -23,7 +23,5 @@ returns g c =
     let statements = ap (λ names. map (seen_statement names) step.statements.items) names_are ∙ c.step-step.ensures.statements in
     let returned = ap (λ names. seen_returned names step.returned) names_are ∙ c.step-step.ensures.returned in
     puts_same _ _ _ _ (puts_both _ _ _ _ _ c.put_statics.ensures (puts_both _ _ _ _ _ c.put_reset.ensures c.put_step.ensures))
-    (in_turn unit _ _ _ (ap (flat_map static_line) c.statics-2.ensures)
-    (λ i. codes "\nvoid " ++ (c.reset.ensures.name i ++ (codes "(void)\n{\n" ++ (flat_map assignment_line (assignments i) ++ codes "}\n"))))
-    (λ i. (codes "\nint " ++ (c.step-step.ensures.name i ++ (codes "(" ++ (parameters_text (c.step-step.ensures.parameters i) ++ codes ")\n{\n"))))
-    ++ (local_lines (c.step-step.ensures.locals i) ++ (flat_map statement_line (statements i) ++ (codes "  return " ++ (returned_text (returned i) ++ codes ";\n}\n"))))))
+    (in_turn unit _ _ _ (ap (λ names. text_in (Each static_line names)) c.statics-2.ensures) (λ i. text_in (reset_lines (c.reset.ensures.name i) (assignments i)))
+    (λ i. text_in (step_lines (c.step-step.ensures.name i) (c.step-step.ensures.parameters i) (c.step-step.ensures.locals i) (statements i) (returned i))))

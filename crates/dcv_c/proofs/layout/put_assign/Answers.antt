@@ -1,7 +1,6 @@
-use Rattle.std.proofs.Common.{append_assoc}
-use Rattle.dcv_io.proofs.Putting.{puts_both, puts_same}
+use Rattle.dcv_io.proofs.Putting.{puts_both}
 use Rattle.dcv_c.proofs.layout.put_assign.Goals as goal
 
 pub returns : goal.returns
 returns g c =
-    puts_same _ _ _ _ (puts_both _ _ _ _ _ c.put_left.ensures (puts_both _ _ _ _ _ c.put_right.ensures c.put.ensures)) (simp append_assoc)
+    puts_both _ _ _ _ _ c.put.ensures (puts_both _ _ _ _ _ c.put_name.ensures (puts_both _ _ _ _ _ c.put-2.ensures (puts_both _ _ _ _ _ c.put_right.ensures c.put-3.ensures)))

@@ -1,15 +1,11 @@
-use Rattle.std.proofs.Common.{◌<◌, ◌++◌, List, length, map, sym, ap, subst, refl, ◌∙◌, arith, codes}
-use Rattle.std.specs.Fmt.{decimal}
-use Rattle.std.specs.List.{All, enumerate_from}
+use Rattle.std.proofs.Common.{◌<◌, List, length, sym, ap, subst, ◌∙◌, arith}
+use Rattle.std.specs.List.{All}
 use Rattle.dcv_dfa.specs.declared.node_lines.NodeLine.{NodeLine}
 use Rattle.dcv_dfa.specs.NodeLines.{NodeLinesValue}
 use Rattle.dcv_io.proofs.Putting.{puts_both, puts_same}
-use Rattle.dcv_automaton_file.specs.File.{texts_of, node_line, state_lines}
+use Rattle.dcv_automaton_file.specs.File.{texts_of}
 use Rattle.dcv_automaton_file.proofs.Rows.{are_lined}
-use Rattle.dcv_automaton_file.proofs.PutLines.{lines_seen, numbers_seen}
-use Rattle.dcv_c.specs.Layout.{local_line, statement_line}
-use Rattle.dcv_c.specs.Observer.{node_local, node_statement, state_statement}
-use Rattle.dcv_c.proofs.ObserverText.{parameters_are, node_is, state_is, tests_are, text_is}
+use Rattle.dcv_c.proofs.ObserverText.{text_is}
 use Rattle.dcv_c.proofs.straight.put_observer.Goals as goal
 
 pub overflow_cast-lines : goal.overflow_cast-lines
@@ -27,18 +23,15 @@ pub returns : goal.returns
 returns g c = λ access suffixes.
     let raw = c.args.auto.now in
     let is = are_lined raw c.args.nodes.now c.states-states.ensures.raw c.states-states.ensures.auto c.requires.nodes c.requires.lines in
-    let names = texts_of c.args.names.now in
-    let lines = c.lines-lines.result.now in
     let rows = c.rows.result.now in
-    let numbered = map (node_line names) (enumerate_from 0 lines) in
+    let reset = puts_both _ _ _ _ _ c.put_head.ensures (puts_both _ _ _ _ _ c.put_set.ensures c.put.ensures) in
+    let head = puts_both _ _ _ _ _ c.put_beginning.ensures (puts_both _ _ _ _ _ c.put_names.ensures c.put-2.ensures) in
+    let locals = puts_both _ _ _ _ _ (puts_both _ _ _ _ _ c.put_local.ensures c.put_numbers.ensures) c.put-3.ensures in
+    let statements =
+    puts_both _ _ _ _ _ c.put_set-2.ensures (puts_both _ _ _ _ _ c.put_nodes.ensures (puts_both _ _ _ _ _ (c.put_rows.ensures raw) c.put_stored.ensures)) in
+    let end =
+    puts_both _ _ _ _ _ c.put_pieces.ensures (puts_both _ _ _ _ _ (c.put_returned.ensures rows (ap length c.rows.ensures ∙ is.row_count)) c.put_pieces-2.ensures) in
     puts_same _ _ _ _
-    (puts_both _ _ _ _ _ c.put.ensures (puts_both _ _ _ _ _ c.put_names.ensures (puts_both _ _ _ _ _ c.put-2.ensures (puts_both _ _ _ _ _ c.put_numbers.ensures
-    (puts_both _ _ _ _ _ c.put-3.ensures (puts_both _ _ _ _ _ c.put_nodes.ensures (puts_both _ _ _ _ _ (c.put_rows.ensures raw)
-    (puts_both _ _ _ _ _ c.put-4.ensures (puts_both _ _ _ _ _ (c.put_accepting.ensures rows (ap length c.rows.ensures ∙ is.row_count)) c.put-5.ensures)))))))))
-    (text_is raw names lines rows access suffixes
-    (c.lines-lines.ensures ∙ ap (λ (all : NodeLinesValue). all.lines) c.requires.lines) (c.rows.ensures ∙ ap (λ (all : NodeLinesValue). all.rows) c.requires.lines) _ _ _ _ _
-    (parameters_are names)
-    (numbers_seen (λ number. codes "  int n" ++ (decimal number ++ codes ";\n")) names 0 lines ∙ lines_seen _ node_local local_line (λ line. refl) numbered)
-    (lines_seen _ node_statement statement_line node_is numbered)
-    (lines_seen _ state_statement statement_line state_is (state_lines raw rows))
-    (tests_are (state_lines raw rows)))
+    (puts_both _ _ _ _ _ c.put_static.ensures (puts_both _ _ _ _ _ reset (puts_both _ _ _ _ _ head (puts_both _ _ _ _ _ locals (puts_both _ _ _ _ _ statements end)))))
+    (text_is raw (texts_of c.args.names.now) c.lines-lines.result.now rows access suffixes
+    (c.lines-lines.ensures ∙ ap (λ (all : NodeLinesValue). all.lines) c.requires.lines) (c.rows.ensures ∙ ap (λ (all : NodeLinesValue). all.rows) c.requires.lines))
