@@ -10,7 +10,7 @@ use Rattle.dcv_lexer.specs.Decimal.{value_of}
 use Rattle.dcv_observer.specs.Classes.{name as plain_name, number, is_short_word, class_of}
 use Rattle.dcv_observer.specs.Pieces.{bytes_of, tokens_at}
 use Rattle.dcv_observer.specs.Layouts.{◌<>◌, Each}
-use Rattle.dcv_observer.proofs.Spelt.{Spelt as SpeltBy, none, by_token, by_rule, then, in_turn}
+use Rattle.dcv_observer.proofs.Spelt.{Spelt as SpeltBy, SpeltAs, at, tokens_in, after, none, by_token, by_rule, then, before, in_turn}
 use Rattle.dcv_observer.proofs.Words.{word_is_no_number, decimal_is, value_of_decimal, number_class as class_of_decimal}
 use Rattle.dcv_c.specs.Classes.{lexicon}
 use Rattle.dcv_c.specs.Tree.{Item, Constant, Named, Condition, Holds, Equals, Test, Right, Plain, Chosen, Statement, Assign, When, Returned, Fixed, Read, Tested}
@@ -25,9 +25,6 @@ use Rattle.dcv_c.specs.Layout.{pieces_in, item_text, condition_layout, right_lay
 -- by the scheme of the subset
 abbrev pub Spelt : List Symbol → List Token → List Part → Type 0
 Spelt symbols tokens parts = SpeltBy scheme symbols tokens parts
-
-abbrev at : ℕ → List ℕ → Token
-at start bytes = record { bytes = bytes; start = start }
 
 -- ---- words and numbers
 
@@ -67,7 +64,7 @@ pub record ConditionSpelt (start : ℕ) (condition : Condition) : Type 0 where
   pub name : Token
   pub number : Option Token
   pub condition_is : condition_of name.bytes number ≡ condition
-  pub spelt : Spelt (Rule rules.condition ∷ []) (tokens_at start (pieces_in (condition_layout condition))) (Compared name number ∷ [])
+  pub spelt : Spelt (Rule rules.condition ∷ []) (tokens_in start (condition_layout condition)) (Compared name number ∷ [])
 
 condition_spelt : (start : ℕ) (condition : Condition) → IsCondition condition → ConditionSpelt start condition
 unfolding language lexicon
@@ -89,23 +86,18 @@ condition_spelt start (Equals name n) is =
 
 -- ---- right sides
 
-pub record RightSpelt (start : ℕ) (right : Right) : Type 0 where
-  pub placed : PlacedRight
-  pub right_is : right_of placed ≡ right
-  pub spelt : Spelt (Rule rules.right ∷ []) (tokens_at start (pieces_in (right_layout right))) (ARight placed ∷ [])
-
-right_spelt : (start : ℕ) (right : Right) → IsRight right → RightSpelt start right
+right_spelt : (start : ℕ) (right : Right) → IsRight right → SpeltAs scheme rules.right ARight right_of start (right_layout right) right
 unfolding language lexicon
 right_spelt start (Plain (Constant n)) is =
     record {
       placed = PlacedPlain (at start (decimal n));
-      right_is = ap Plain (item_spelt start (Constant n) is).item_is;
+      is = ap Plain (item_spelt start (Constant n) is).item_is;
       spelt = by_rule rules.right (1, omega arith, refl) (by_token (at start (decimal n)) (number_class n is) none);
     }
 right_spelt start (Plain (Named name)) is =
     record {
       placed = PlacedPlain (at start name);
-      right_is = ap Plain (item_spelt start (Named name) is).item_is;
+      is = ap Plain (item_spelt start (Named name) is).item_is;
       spelt = by_rule rules.right (0, omega arith, refl) (by_token (at start name) (name_class name is) (by_rule rules.choice (0, omega arith, refl) none));
     }
 right_spelt start (Chosen (Holds name) item otherwise) is =
@@ -115,7 +107,7 @@ right_spelt start (Chosen (Holds name) item otherwise) is =
     let j = item_spelt second otherwise is.2 in
     record {
       placed = PlacedChosen (at start name) (record { number = None; item = at first (item_text item); otherwise = at second (item_text otherwise) });
-      right_is = λ k. Chosen (Holds name) (i.item_is k) (j.item_is k);
+      is = λ k. Chosen (Holds name) (i.item_is k) (j.item_is k);
       spelt = by_rule rules.right (0, omega arith, refl) (by_token (at start name) (name_class name is.0)
           (by_rule rules.choice (1, omega arith, refl) (by_token _ refl (then i.spelt (by_token _ refl j.spelt)))));
     }
@@ -129,7 +121,7 @@ right_spelt start (Chosen (Equals name n) item otherwise) is =
     record {
       placed = PlacedChosen (at start name)
           (record { number = Some (at number (decimal n)); item = at first (item_text item); otherwise = at second (item_text otherwise) });
-      right_is = λ k. Chosen (Equals name (same k)) (i.item_is k) (j.item_is k);
+      is = λ k. Chosen (Equals name (same k)) (i.item_is k) (j.item_is k);
       spelt = by_rule rules.right (0, omega arith, refl) (by_token (at start name) (name_class name is.0.0)
           (by_rule rules.choice (2, omega arith, refl) (by_token _ refl (by_token (at number (decimal n)) (number_class n is.0.1)
           (by_token _ refl (then i.spelt (by_token _ refl j.spelt)))))));
@@ -137,12 +129,7 @@ right_spelt start (Chosen (Equals name n) item otherwise) is =
 
 -- ---- statements
 
-pub record StatementSpelt (start : ℕ) (statement : Statement) : Type 0 where
-  pub placed : PlacedStatement
-  pub statement_is : statement_of placed ≡ statement
-  pub spelt : Spelt (Rule rules.statement ∷ []) (tokens_at start (pieces_in (statement_line statement))) (AStatement placed ∷ [])
-
-statement_spelt : (start : ℕ) (statement : Statement) → IsStatement statement → StatementSpelt start statement
+statement_spelt : (start : ℕ) (statement : Statement) → IsStatement statement → SpeltAs scheme rules.statement AStatement statement_of start (statement_line statement) statement
 unfolding language lexicon
 statement_spelt start (Assign left right) is =
     let name = at (start + 1 + 1) left in
@@ -151,56 +138,48 @@ statement_spelt start (Assign left right) is =
     let r = right_spelt from right is.1 in
     record {
       placed = PlacedAssign name r.placed;
-      statement_is = ap (Assign left) r.right_is;
+      is = ap (Assign left) r.is;
       spelt =
           by_rule rules.statement (0, omega arith, refl) (by_token name (name_class left is.0) (by_token equals refl
-          (in_turn (pieces_in (right_layout right)) _ from r.spelt (by_token _ refl none))));
+          (before (right_layout right) _ from r.spelt (by_token _ refl none))));
     }
 statement_spelt start (When condition left item) is =
     let if_word = at (start + 1 + 1) (codes "if") in
     let opening = at (start + 1 + 1 + 2 + 1) (codes "(") in
     let from = start + 1 + 1 + 2 + 1 + 1 in
     let c = condition_spelt from condition is.0 in
-    let behind = from + length (bytes_of (pieces_in (condition_layout condition))) in
+    let behind = after from (condition_layout condition) in
     let name = at (behind + 1 + 1) left in
     let last = behind + 1 + 1 + length left + 1 + 1 + 1 in
     let i = item_spelt last item is.2 in
     record {
       placed = PlacedWhen c.name c.number name (at last (item_text item));
-      statement_is = λ k. When (c.condition_is k) left (i.item_is k);
+      is = λ k. When (c.condition_is k) left (i.item_is k);
       spelt =
-          by_rule rules.statement (1, omega arith, refl) (by_token if_word refl (by_token opening refl (in_turn (pieces_in (condition_layout condition)) _ from c.spelt (by_token _ refl
+          by_rule rules.statement (1, omega arith, refl) (by_token if_word refl (by_token opening refl (before (condition_layout condition) _ from c.spelt (by_token _ refl
           (by_token name (name_class left is.1) (by_token _ refl (then i.spelt (by_token _ refl none))))))));
     }
 
-pub record StatementsSpelt (start : ℕ) (statements : List Statement) : Type 0 where
-  pub placed : List PlacedStatement
-  pub statements_are : map statement_of placed ≡ statements
-  pub spelt : Spelt (Rule rules.statements ∷ []) (tokens_at start (pieces_in (Each statement_line statements))) (Statements placed ∷ [])
-
-pub statements_spelt : (statements : List Statement) (start : ℕ) → AllByRecursion IsStatement statements → StatementsSpelt start statements
+pub statements_spelt : (statements : List Statement) (start : ℕ) → AllByRecursion IsStatement statements
+    → SpeltAs scheme rules.statements Statements (map statement_of) start (Each statement_line statements) statements
 unfolding language
-statements_spelt [] start is = record { placed = []; statements_are = refl; spelt = by_rule rules.statements (0, omega arith, refl) none }
+statements_spelt [] start is = record { placed = []; is = refl; spelt = by_rule rules.statements (0, omega arith, refl) none }
 statements_spelt (statement ∷ statements) start is =
     let s = statement_spelt start statement is.0 in
-    let more = statements_spelt statements (start + length (bytes_of (pieces_in (statement_line statement)))) is.1 in
+    let more = statements_spelt statements (after start (statement_line statement)) is.1 in
     record {
       placed = s.placed ∷ more.placed;
-      statements_are = λ i. s.statement_is i ∷ more.statements_are i;
+      is = λ i. s.is i ∷ more.is i;
       spelt =
-          by_rule rules.statements (1, omega arith, refl) (in_turn (pieces_in (statement_line statement)) (pieces_in (Each statement_line statements)) start s.spelt more.spelt);
+          by_rule rules.statements (1, omega arith, refl) (in_turn (statement_line statement) (Each statement_line statements) start s.spelt more.spelt);
     }
 
 -- ---- what is returned
 
-pub record TestsSpelt (start : ℕ) (tests : List Test) : Type 0 where
-  pub placed : List PlacedTest
-  pub tests_are : map test_of placed ≡ tests
-  pub spelt : Spelt (Rule rules.more_tests ∷ []) (tokens_at start (pieces_in (Each (λ test. between_tests <> test_layout test) tests))) (Tests placed ∷ [])
-
-more_tests_spelt : (tests : List Test) (start : ℕ) → AllByRecursion IsTest tests → TestsSpelt start tests
+more_tests_spelt : (tests : List Test) (start : ℕ) → AllByRecursion IsTest tests
+    → SpeltAs scheme rules.more_tests Tests (map test_of) start (Each (λ test. between_tests <> test_layout test) tests) tests
 unfolding language lexicon
-more_tests_spelt [] start are = record { placed = []; tests_are = refl; spelt = by_rule rules.more_tests (0, omega arith, refl) none }
+more_tests_spelt [] start are = record { placed = []; is = refl; spelt = by_rule rules.more_tests (0, omega arith, refl) none }
 more_tests_spelt (test ∷ tests) start are =
     let first = start + 1 + 2 + 1 in
     let last = first + length test.name + 1 + 2 + 1 in
@@ -210,29 +189,24 @@ more_tests_spelt (test ∷ tests) start are =
     let same = value_of_decimal test.number (omega (arith, are.0.number)) in
     record {
       placed = record { name = name; number = number } ∷ more.placed;
-      tests_are = λ i. record { name = test.name; number = same i } ∷ more.tests_are i;
+      is = λ i. record { name = test.name; number = same i } ∷ more.is i;
       spelt = by_rule rules.more_tests (1, omega arith, refl) (by_token (at (start + 1) (codes "||")) refl
           (then (by_rule rules.test (0, omega arith, refl) (by_token name (name_class test.name are.0.name) (by_token (at (first + length test.name + 1) (codes "==")) refl
           (by_token number (number_class test.number are.0.number) none)))) more.spelt));
     }
 
-pub record ReturnedSpelt (start : ℕ) (returned : Returned) : Type 0 where
-  pub placed : PlacedReturned
-  pub returned_is : returned_of placed ≡ returned
-  pub spelt : Spelt (Rule rules.returned ∷ []) (tokens_at start (pieces_in (returned_layout returned))) (AReturned placed ∷ [])
-
-pub returned_spelt : (start : ℕ) (returned : Returned) → IsReturned returned → ReturnedSpelt start returned
+pub returned_spelt : (start : ℕ) (returned : Returned) → IsReturned returned → SpeltAs scheme rules.returned AReturned returned_of start (returned_layout returned) returned
 unfolding language lexicon
 returned_spelt start (Fixed n) is =
     record {
       placed = PlacedFixed (at start (decimal n));
-      returned_is = ap Fixed (value_of_decimal n (omega arith));
+      is = ap Fixed (value_of_decimal n (omega arith));
       spelt = by_rule rules.returned (1, omega arith, refl) (by_token (at start (decimal n)) (number_class n is) none);
     }
 returned_spelt start (Read name) is =
     record {
       placed = PlacedRead (at start name);
-      returned_is = refl;
+      is = refl;
       spelt = by_rule rules.returned (0, omega arith, refl) (by_token (at start name) (name_class name is) (by_rule rules.tests (0, omega arith, refl) none));
     }
 returned_spelt start (Tested []) is = absurd (omega (arith, is.0))
@@ -244,7 +218,7 @@ returned_spelt start (Tested (test ∷ tests)) is =
     let same = value_of_decimal test.number (omega (arith, is.1.0.number)) in
     record {
       placed = PlacedTested (record { name = name; number = number } ∷ more.placed);
-      returned_is = λ i. Tested (record { name = test.name; number = same i } ∷ more.tests_are i);
+      is = λ i. Tested (record { name = test.name; number = same i } ∷ more.is i);
       spelt = by_rule rules.returned (0, omega arith, refl) (by_token name (name_class test.name is.1.0.name)
           (by_rule rules.tests (1, omega arith, refl) (by_token (at (start + length test.name + 1) (codes "==")) refl
           (by_token number (number_class test.number is.1.0.number) more.spelt))));
