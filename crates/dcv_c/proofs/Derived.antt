@@ -8,19 +8,18 @@ use Rattle.dcv_grammar.specs.declared.grammar.Symbol.TheVariants.{Rule}
 use Rattle.dcv_lexer.specs.Cuts.{Token}
 use Rattle.dcv_lexer.specs.Decimal.{value_of}
 use Rattle.dcv_observer.specs.Classes.{name as plain_name, number, is_short_word, class_of}
-use Rattle.dcv_observer.specs.Pieces.{bytes_of, tokens_at}
 use Rattle.dcv_observer.specs.Layouts.{◌<>◌, Each}
 use Rattle.dcv_observer.proofs.Spelt.{Spelt as SpeltBy, SpeltAs, at, tokens_in, after, none, by_token, by_rule, then, before, in_turn}
 use Rattle.dcv_observer.proofs.Words.{word_is_no_number, decimal_is, value_of_decimal, number_class as class_of_decimal}
 use Rattle.dcv_c.specs.Classes.{lexicon}
 use Rattle.dcv_c.specs.Tree.{Item, Constant, Named, Condition, Holds, Equals, Test, Right, Plain, Chosen, Statement, Assign, When, Returned, Fixed, Read, Tested}
-use Rattle.dcv_c.specs.Placed.{item_at, condition_of, test_of, right_of, statement_of, returned_of, PlacedRight, PlacedPlain, PlacedChosen}
-use Rattle.dcv_c.specs.Placed.{PlacedStatement, PlacedAssign, PlacedWhen, PlacedReturned, PlacedFixed, PlacedRead, PlacedTested, PlacedTest}
+use Rattle.dcv_c.specs.Placed.{item_at, condition_of, test_of, right_of, statement_of, returned_of, PlacedPlain, PlacedChosen}
+use Rattle.dcv_c.specs.Placed.{PlacedAssign, PlacedWhen, PlacedFixed, PlacedRead, PlacedTested}
 use Rattle.dcv_c.specs.Language as rules
 use Rattle.dcv_c.specs.Language.{language}
 use Rattle.dcv_c.specs.Actions.{Part, scheme, AToken, ARight, Compared, AStatement, Statements, AReturned, Tests}
 use Rattle.dcv_c.specs.Form.{IsName, IsNumber, IsItem, IsCondition, IsRight, IsStatement, IsTest, IsReturned}
-use Rattle.dcv_c.specs.Layout.{pieces_in, item_text, condition_layout, right_layout, statement_line, between_tests, test_layout, returned_layout}
+use Rattle.dcv_c.specs.Layout.{item_text, condition_layout, right_layout, statement_line, between_tests, test_layout, returned_layout}
 
 -- by the scheme of the subset
 abbrev pub Spelt : List Symbol → List Token → List Part → Type 0

@@ -15,7 +15,7 @@ use Rattle.dcv_c.specs.Language as rules
 use Rattle.dcv_c.specs.Language.{language}
 use Rattle.dcv_c.specs.Actions.{scheme, AToken, Tokens, Assignments, AReset, AReturned, AStep, AUnit, Spells}
 use Rattle.dcv_c.specs.Form.{IsName, IsAssignment, IsSpellable}
-use Rattle.dcv_c.specs.Layout.{pieces_in, declaration, static_line, local_line, local_lines, between_parameters, parameters_layout, head, assignment_line, reset_lines}
+use Rattle.dcv_c.specs.Layout.{declaration, static_line, local_line, local_lines, between_parameters, parameters_layout, head, assignment_line, reset_lines}
 use Rattle.dcv_c.specs.Layout.{statement_line, returned_layout, end_lines, layout_of, text_of}
 use Rattle.dcv_c.proofs.Derived.{Spelt, name_class, number_class, statements_spelt, returned_spelt}
 use Rattle.dcv_c.proofs.LaidOut.{orderly, step_of, unit_laid}

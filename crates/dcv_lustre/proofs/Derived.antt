@@ -11,7 +11,7 @@ use Rattle.dcv_lexer.specs.Lexicon.{is_number}
 use Rattle.dcv_lexer.specs.Cuts.{Token}
 use Rattle.dcv_lexer.specs.Decimal.{value_of}
 use Rattle.dcv_observer.specs.Classes.{name as plain_name, number, is_short_word, class_of}
-use Rattle.dcv_observer.specs.Pieces.{bytes_of, tokens_at}
+use Rattle.dcv_observer.specs.Pieces.{tokens_at}
 use Rattle.dcv_observer.specs.Layouts.{Layout, ◌<>◌, Each, Word}
 use Rattle.dcv_observer.proofs.Spelt.{Spelt as SpeltBy, SpeltAs, at, tokens_in, after, none, by_token, by_rule, then, before, in_turn}
 use Rattle.dcv_observer.proofs.PieceLists.{tokens_append}

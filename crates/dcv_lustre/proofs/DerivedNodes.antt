@@ -12,7 +12,7 @@ use Rattle.dcv_lustre.specs.Language as rules
 use Rattle.dcv_lustre.specs.Language.{language}
 use Rattle.dcv_lustre.specs.Actions.{scheme, AToken, Tokens, ALocal, Locals, AnEquation, Equations, ANode, Spells}
 use Rattle.dcv_lustre.specs.Form.{IsName, IsEquation, IsSpellable}
-use Rattle.dcv_lustre.specs.Layout.{pieces_in, kind_text, right_layout, equation_line, local_line, local_lines, between_inputs, input_layout, inputs_layout, opening_layout}
+use Rattle.dcv_lustre.specs.Layout.{kind_text, right_layout, equation_line, local_line, local_lines, between_inputs, input_layout, inputs_layout, opening_layout}
 use Rattle.dcv_lustre.specs.Layout.{output_layout, equation_lines, layout_of, text_of}
 use Rattle.dcv_lustre.proofs.Derived.{Spelt, name_spelt, right_spelt}
 use Rattle.dcv_lustre.proofs.LaidOut.{orderly, node_laid}
