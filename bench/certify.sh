@@ -5,18 +5,18 @@
 #
 #   DCVALID=PROGRAM bench/certify.sh [SUFFIXES ..]
 #
-# Goals: memory for the text and its lines, and little for the columns. The last figures: 1 December 2026, an unproved build, with all processors busy,
-# where the program of the day before took 3.5 seconds for `apart` at 18,600 suffixes:
+# Goals: memory for the text and its lines, and little for the columns; five minutes and 1000 megabytes for the longest text, one of 134 megabytes. The last
+# figures: 1 December 2026, an unproved build, with all processors busy, where the program of the day before took 1.9 seconds for `apart` at 18,600 suffixes:
 #
 #     kind   suffixes       bytes   seconds megabytes
-#     same      18600     1791509       0.0       6.6
-#     same     900000    19687412       0.1      70.9
-#     same    5580000   121997414       0.4     418.4
-#    apart      18600     1791509       1.2      10.8
-#    apart     900000    19687412      63.1      70.9
+#     same      18600     1791509       0.0       6.8
+#     same     900000    19687412       0.1      71.0
+#     same    5580000   121997414       0.5     418.5
+#    apart      18600     1791509       1.1      10.5
+#    apart     900000    19687412      44.2      71.2
+#    apart    5580000   121997414     272.9     418.3
 #
-# Before, each suffix that a later one goes on from took 35 kB: 338 megabytes at 18,600 suffixes. The time of `apart` grows with states by suffixes;
-# where each suffix has a letter of its own, a walk through each state's row comes to that.
+# The time of `apart` grows with states by suffixes, 1.5 ns each; where each suffix has a letter of its own, a walk through each state's row comes to that.
 set -euo pipefail
 built=$(mktemp -d)
 trap 'rm -rf "$built"' EXIT

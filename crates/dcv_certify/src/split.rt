@@ -28,12 +28,12 @@ fn splits(old: &[u32], column: &[bool]) -> bool
     requires own { AreOwn old.now }
     ensures { IsFalse result → IsSplit old.now column.now old.now }
 {
+    // all are looked at, since that takes less time than a test at each.
+    let mut found = false;
     for (entry, class) in old.iter().enumerate() {
-        if column[entry] != column[*class as usize] {
-            return true;
-        }
+        found |= column[entry] != column[*class as usize];
     }
-    false
+    found
 }
 
 // The numbers of the entries where those of one class with other bits are apart.

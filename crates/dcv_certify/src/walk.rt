@@ -67,12 +67,13 @@ fn is_steady(column: &[bool]) -> bool
     requires { 0 < length column.now }
     ensures { IsTrue result → IsSteady column.now }
 {
+    // all are looked at, since that takes less time than a test at each.
+    let first = column[0];
+    let mut steady = true;
     for entry in 0..column.len() - 1 {
-        if column[entry] != column[0] {
-            return false;
-        }
+        steady &= column[entry] == first;
     }
-    true
+    steady
 }
 
 // Lets a suffix be tried next, given the column of the one that it goes on from.
