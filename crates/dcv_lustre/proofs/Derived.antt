@@ -104,26 +104,19 @@ item_spelt start (Named name) is =
 
 -- ---- conditions and arms
 
-pub record ConditionSpelt (start : ℕ) (condition : Condition) : Type 0 where
-  pub name : Token
-  pub number : Option Token
-  pub condition_is : condition_of name.bytes number ≡ condition
-  pub spelt : Spelt (Rule rules.condition ∷ []) (tokens_in start (condition_layout condition)) (Compared name number ∷ [])
-
-condition_spelt : (start : ℕ) (condition : Condition) → IsCondition condition → ConditionSpelt start condition
+condition_spelt : (start : ℕ) (condition : Condition) → IsCondition condition
+    → SpeltAs rules.condition (λ (c : Token × Option Token). Compared c.0 c.1) (λ c. condition_of c.0.bytes c.1) start (condition_layout condition) condition
 unfolding language lexicon
 condition_spelt start (Holds name) is =
     record {
-      name = at start name;
-      number = None;
-      condition_is = refl;
+      placed = (at start name, None);
+      is = refl;
       spelt = by_rule rules.condition (0, omega arith, refl) (then (name_spelt start name is) (by_rule rules.compared (0, omega arith, refl) none));
     }
 condition_spelt start (Equals name n) is =
     record {
-      name = at start name;
-      number = Some (at _ (decimal n));
-      condition_is = ap (Equals name) (value_of_decimal n (omega (arith, is.1)));
+      placed = (at start name, Some (at _ (decimal n)));
+      is = ap (Equals name) (value_of_decimal n (omega (arith, is.1)));
       spelt = by_rule rules.condition (0, omega arith, refl) (then (name_spelt start name is.0)
           (by_rule rules.compared (1, omega arith, refl) (by_token _ refl (by_token _ (number_class n is.1) none))));
     }
@@ -141,20 +134,13 @@ arm_spelt start arm is =
     let from = after (start + 2 + 1) (condition_layout arm.condition) + 1 + 4 + 1 in
     let i = item_spelt from arm.item is.item in
     record {
-      placed = record { name = c.name; number = c.number; item = at from (item_text arm.item) };
-      arm_is = λ j. record { condition = c.condition_is j; item = i.item_is j };
+      placed = record { name = c.placed.0; number = c.placed.1; item = at from (item_text arm.item) };
+      arm_is = λ j. record { condition = c.is j; item = i.item_is j };
       spelt =
           by_token _ refl (before (condition_layout arm.condition) _ (start + 2 + 1) c.spelt (by_token _ refl (then i.spelt (by_token _ refl none))));
     }
 
 -- ---- choices
-
-pub record ChoiceSpelt (start : ℕ) (arms : List Arm) (otherwise : Item) : Type 0 where
-  pub placed : List PlacedArm
-  pub last : Token
-  pub arms_are : map arm_of placed ≡ arms
-  pub last_is : item_at last ≡ otherwise
-  pub spelt : Spelt (Rule rules.choice ∷ []) (tokens_in start (right_layout (Chosen arms otherwise))) (Choice placed last ∷ [])
 
 -- the tokens of an arm and what is after it
 arm_first : (start : ℕ) (arm : Arm) (arms : List Arm) (otherwise : Item)
@@ -164,21 +150,20 @@ arm_first start arm arms otherwise =
     ap (tokens_at start) (append_assoc (pieces_in (arm_layout arm)) (pieces_in (Each arm_layout arms)) (pieces_in (Word (item_text otherwise))))
     ∙ tokens_append (pieces_in (arm_layout arm)) (pieces_in (right_layout (Chosen arms otherwise))) start
 
-choice_spelt : (arms : List Arm) (start : ℕ) (otherwise : Item) → AllByRecursion IsArm arms → IsItem otherwise → ChoiceSpelt start arms otherwise
+choice_spelt : (arms : List Arm) (start : ℕ) (otherwise : Item) → AllByRecursion IsArm arms → IsItem otherwise
+    → SpeltAs {X = List Arm × Item} rules.choice (λ (c : List PlacedArm × Token). Choice c.0 c.1) (λ c. (map arm_of c.0, item_at c.1)) start (right_layout (Chosen arms otherwise)) (arms, otherwise)
 unfolding language
 choice_spelt [] start otherwise are is =
     let i = item_spelt start otherwise is in
-    record { placed = []; last = at start (item_text otherwise); arms_are = refl; last_is = i.item_is; spelt = by_rule rules.choice (0, omega arith, refl) i.spelt }
+    record { placed = ([], at start (item_text otherwise)); is = λ j. ([], i.item_is j); spelt = by_rule rules.choice (0, omega arith, refl) i.spelt }
 choice_spelt (arm ∷ arms) start otherwise are is =
     let a = arm_spelt start arm are.0 in
     let more = choice_spelt arms (after start (arm_layout arm)) otherwise are.1 is in
     record {
-      placed = a.placed ∷ more.placed;
-      last = more.last;
-      arms_are = λ i. a.arm_is i ∷ more.arms_are i;
-      last_is = more.last_is;
+      placed = (a.placed ∷ more.placed.0, more.placed.1);
+      is = λ i. (a.arm_is i ∷ (more.is i).0, (more.is i).1);
       spelt =
-          subst (λ tokens. Spelt (Rule rules.choice ∷ []) tokens (Choice (a.placed ∷ more.placed) more.last ∷ []))
+          subst (λ tokens. Spelt (Rule rules.choice ∷ []) tokens (Choice (a.placed ∷ more.placed.0) more.placed.1 ∷ []))
           (sym (arm_first start arm arms otherwise))
           (by_rule rules.choice (1, omega arith, refl) (then a.spelt more.spelt));
     }
@@ -246,10 +231,10 @@ right_spelt start (Chosen (arm ∷ arms) otherwise) is =
     let a = arm_spelt start arm is.0.0 in
     let more = choice_spelt arms (after start (arm_layout arm)) otherwise is.0.1 is.1 in
     record {
-      placed = PlacedChosen (a.placed ∷ more.placed) more.last;
-      is = λ i. Chosen (a.arm_is i ∷ more.arms_are i) (more.last_is i);
+      placed = PlacedChosen (a.placed ∷ more.placed.0) more.placed.1;
+      is = λ i. Chosen (a.arm_is i ∷ (more.is i).0) ((more.is i).1);
       spelt =
-          subst (λ tokens. Spelt (Rule rules.right ∷ []) tokens (ARight (PlacedChosen (a.placed ∷ more.placed) more.last) ∷ []))
+          subst (λ tokens. Spelt (Rule rules.right ∷ []) tokens (ARight (PlacedChosen (a.placed ∷ more.placed.0) more.placed.1) ∷ []))
           (sym (arm_first start arm arms otherwise))
           (by_rule rules.right (2, omega arith, refl) (then a.spelt more.spelt));
     }
