@@ -9,7 +9,7 @@ use Rattle.dcv_lexer.specs.Cuts.{Token}
 use Rattle.dcv_lexer.specs.Decimal.{value_of}
 use Rattle.dcv_observer.specs.Classes.{name as plain_name, number, is_short_word, class_of}
 use Rattle.dcv_observer.specs.Layouts.{◌<>◌, Each}
-use Rattle.dcv_observer.proofs.Spelt.{Spelt as SpeltBy, SpeltAs, at, tokens_in, after, none, by_token, by_rule, then, before, in_turn}
+use Rattle.dcv_observer.proofs.Spelt.{Spelt as SpeltBy, SpeltAs, at, after, none, by_token, by_rule, then, before, in_turn}
 use Rattle.dcv_observer.proofs.Words.{word_is_no_number, decimal_is, value_of_decimal, number_class as class_of_decimal}
 use Rattle.dcv_c.specs.Classes.{lexicon}
 use Rattle.dcv_c.specs.Tree.{Item, Constant, Named, Condition, Holds, Equals, Test, Right, Plain, Chosen, Statement, Assign, When, Returned, Fixed, Read, Tested}
@@ -59,26 +59,19 @@ item_spelt start (Named name) is =
 
 -- ---- conditions
 
-pub record ConditionSpelt (start : ℕ) (condition : Condition) : Type 0 where
-  pub name : Token
-  pub number : Option Token
-  pub condition_is : condition_of name.bytes number ≡ condition
-  pub spelt : Spelt (Rule rules.condition ∷ []) (tokens_in start (condition_layout condition)) (Compared name number ∷ [])
-
-condition_spelt : (start : ℕ) (condition : Condition) → IsCondition condition → ConditionSpelt start condition
+condition_spelt : (start : ℕ) (condition : Condition) → IsCondition condition
+    → SpeltAs scheme rules.condition (λ (c : Token × Option Token). Compared c.0 c.1) (λ c. condition_of c.0.bytes c.1) start (condition_layout condition) condition
 unfolding language lexicon
 condition_spelt start (Holds name) is =
     record {
-      name = at start name;
-      number = None;
-      condition_is = refl;
+      placed = (at start name, None);
+      is = refl;
       spelt = by_rule rules.condition (0, omega arith, refl) (by_token (at start name) (name_class name is) (by_rule rules.compared (0, omega arith, refl) none));
     }
 condition_spelt start (Equals name n) is =
     record {
-      name = at start name;
-      number = Some (at _ (decimal n));
-      condition_is = ap (Equals name) (value_of_decimal n (omega (arith, is.1)));
+      placed = (at start name, Some (at _ (decimal n)));
+      is = ap (Equals name) (value_of_decimal n (omega (arith, is.1)));
       spelt = by_rule rules.condition (0, omega arith, refl) (by_token (at start name) (name_class name is.0)
           (by_rule rules.compared (1, omega arith, refl) (by_token _ refl (by_token _ (number_class n is.1) none))));
     }
@@ -152,8 +145,8 @@ statement_spelt start (When condition left item) is =
     let last = behind + 1 + 1 + length left + 1 + 1 + 1 in
     let i = item_spelt last item is.2 in
     record {
-      placed = PlacedWhen c.name c.number name (at last (item_text item));
-      is = λ k. When (c.condition_is k) left (i.item_is k);
+      placed = PlacedWhen c.placed.0 c.placed.1 name (at last (item_text item));
+      is = λ k. When (c.is k) left (i.item_is k);
       spelt =
           by_rule rules.statement (1, omega arith, refl) (by_token if_word refl (by_token opening refl (before (condition_layout condition) _ from c.spelt (by_token _ refl
           (by_token name (name_class left is.1) (by_token _ refl (then i.spelt (by_token _ refl none))))))));

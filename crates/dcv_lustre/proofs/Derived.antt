@@ -105,7 +105,7 @@ item_spelt start (Named name) is =
 -- ---- conditions and arms
 
 condition_spelt : (start : ℕ) (condition : Condition) → IsCondition condition
-    → SpeltAs rules.condition (λ (c : Token × Option Token). Compared c.0 c.1) (λ c. condition_of c.0.bytes c.1) start (condition_layout condition) condition
+    → SpeltAs scheme rules.condition (λ (c : Token × Option Token). Compared c.0 c.1) (λ c. condition_of c.0.bytes c.1) start (condition_layout condition) condition
 unfolding language lexicon
 condition_spelt start (Holds name) is =
     record {
@@ -151,7 +151,7 @@ arm_first start arm arms otherwise =
     ∙ tokens_append (pieces_in (arm_layout arm)) (pieces_in (right_layout (Chosen arms otherwise))) start
 
 choice_spelt : (arms : List Arm) (start : ℕ) (otherwise : Item) → AllByRecursion IsArm arms → IsItem otherwise
-    → SpeltAs {X = List Arm × Item} rules.choice (λ (c : List PlacedArm × Token). Choice c.0 c.1) (λ c. (map arm_of c.0, item_at c.1)) start (right_layout (Chosen arms otherwise)) (arms, otherwise)
+    → SpeltAs {X = List Arm × Item} scheme rules.choice (λ (c : List PlacedArm × Token). Choice c.0 c.1) (λ c. (map arm_of c.0, item_at c.1)) start (right_layout (Chosen arms otherwise)) (arms, otherwise)
 unfolding language
 choice_spelt [] start otherwise are is =
     let i = item_spelt start otherwise is in
