@@ -11,6 +11,8 @@ pub enum Kind {
     Lustre,
     /// An observer of it in a flat subset of C.
     C,
-    /// All four, each after a line that names it.
+    /// An observer of it in constant tables of C.
+    Tables,
+    /// The verdict, its own text and both flat observers, each after a line that names it.
     All,
 }
