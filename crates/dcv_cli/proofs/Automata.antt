@@ -2,13 +2,13 @@
 use Rattle.dcv_cli.proofs.Common.{ℕ, List, Result, Ok, Err, sym, subst, IfOk, Language, VerdictOfSameBehaviours, Verdict}
 use Rattle.dcv_cli.proofs.Common.{IsVerdict, TableAcceptsAsTheStates, RawValue, raw_accepts, IsAutomatonOf}
 use Rattle.dcv_cli.proofs.Common.{Count, ArePrintableCounts}
-use Rattle.dcv_cli.proofs.Common.{ReportValue, SaysOf, Kind, Check, Automaton, Lustre, C, All, SaysAutomaton}
+use Rattle.dcv_cli.proofs.Common.{ReportValue, SaysOf, Kind, Check, Automaton, Lustre, C, Tables, All, SaysAutomaton}
 use Rattle.dcv_cli.proofs.Common.{Reports, Says}
 use Rattle.dcv_language.specs.Language.{HaveSameBehaviours}
 use Rattle.dcv_print.specs.Laws.{IsPrintable}
 use Rattle.dcv_print.specs.Report.{SpellsAutomaton}
 use Rattle.dcv_cli.proofs.Budgets.{same_as_set}
-use Rattle.dcv_cli.proofs.SomeTexts.{PrintLaws, says_node, says_unit, says_automaton}
+use Rattle.dcv_cli.proofs.SomeTexts.{PrintLaws, says_node, says_unit, says_tables, says_automaton}
 
 module _ (print : PrintLaws) (move_verdict : VerdictOfSameBehaviours) (accept : TableAcceptsAsTheStates)
     (raw : RawValue) (names : List (List ℕ)) (counts : List Count) (printable : IsPrintable raw names) (few : ArePrintableCounts counts) (k : ℕ) (L : Language) (of : IsAutomatonOf k L raw) where
@@ -25,6 +25,7 @@ module _ (print : PrintLaws) (move_verdict : VerdictOfSameBehaviours) (accept : 
   says_kind Automaton report says = says_spelled report.text says
   says_kind Lustre report says = says_node print raw names printable counts few k L of.slots accepts report.text says
   says_kind C report says = says_unit print raw names printable counts few k L of.slots accepts report.text says
+  says_kind Tables report says = says_tables print raw names printable counts few k L of.slots accepts report.text says
   says_kind All report says = record {
     automaton = says.automaton;
     node = says.node;

@@ -94,13 +94,13 @@ pub use Rattle.dcv_language.specs.Verdict.{IsLeastOf, IsVerdict, Verdict}
 pub use Rattle.dcv_language.specs.VerdictText.{line, verdict_text}
 pub use Rattle.dcv_language.specs.declared.count.Count.{Count}
 pub use Rattle.dcv_language.specs.declared.kind.Kind.{Kind}
-pub use Rattle.dcv_language.specs.declared.kind.Kind.TheVariants.{All, Automaton, C, Check, Lustre}
+pub use Rattle.dcv_language.specs.declared.kind.Kind.TheVariants.{All, Automaton, C, Check, Lustre, Tables}
 pub use Rattle.dcv_logic.specs.Models.{models}
 pub use Rattle.dcv_lustre.specs.Observer.{observer_of as node_of}
 pub use Rattle.dcv_observer.specs.declared.fault.ObsFault.{ObsFault}
 pub use Rattle.dcv_print.specs.Counts.{ArePrintableCounts}
-pub use Rattle.dcv_print.specs.Laws.{AutomatonOfSameBehaviours, NodeOfSameBehaviours, OneAutomaton, OneNode, OneUnit, PrintedIsAutomaton, PrintedSaysNode, PrintedSaysUnit, UnitOfSameBehaviours}
-pub use Rattle.dcv_print.specs.Observers.{SaysNode, SaysUnit}
+pub use Rattle.dcv_print.specs.Laws.{AutomatonOfSameBehaviours, NodeOfSameBehaviours, OneAutomaton, OneNode, OneTables, OneUnit, PrintedIsAutomaton, PrintedSaysNode, PrintedSaysTables, PrintedSaysUnit, TablesOfSameBehaviours, UnitOfSameBehaviours}
+pub use Rattle.dcv_print.specs.Observers.{SaysNode, SaysTables, SaysUnit}
 pub use Rattle.dcv_print.specs.Printed.{printed_file, texts_of}
 pub use Rattle.dcv_print.specs.Report.{ReportValue, Says as SaysOf}
 pub use Rattle.dcv_print.specs.Sections.{all_text}

@@ -1,7 +1,7 @@
 -- Files that mean the same have the same verdict, the same observers, and the same automaton up to its last access word.
 use Rattle.dcv_cli.proofs.Common.{◌≡◌, ℕ, List, length, Option, sym, ap, ◌∙◌, subst, IsTrue, IsSomeAnd, true≢false, OneVerdict}
 use Rattle.dcv_cli.proofs.Common.{VerdictOfSameBehaviours, IsVerdict, models, OneAutomaton, AutomatonOfSameBehaviours, NodeOfSameBehaviours}
-use Rattle.dcv_cli.proofs.Common.{UnitOfSameBehaviours, OneNode, OneUnit, Kind, texts_of, SpellsOne, PlainFile, Limits, Refusal, Open, Budget}
+use Rattle.dcv_cli.proofs.Common.{UnitOfSameBehaviours, TablesOfSameBehaviours, OneNode, OneUnit, OneTables, Kind, texts_of, SpellsOne, PlainFile, Limits, Refusal, Open, Budget}
 use Rattle.dcv_cli.proofs.Common.{Status, StatusBudget, IsBudgeted, OverBudget, WithinBudget, IsFormulaFile, OnText, Refused, Read, Texts}
 use Rattle.dcv_cli.proofs.Common.{Outcome, status_of, Only, Says, IsReport, is_answer, status_of_verdict}
 use Rattle.dcv_cli.specs.Laws.{IsAnswer, EqualMeanings}
@@ -39,7 +39,8 @@ report_of one_tree kind name limits held file outcome is =
     subst (λ (f : PlainFile). IsReport kind limits f outcome) (one_file one_tree is.text found.file file found.formula is.formula) found.report
 
 module _ (one_tree : SpellsOne) (one_verdict : OneVerdict) (move_verdict : VerdictOfSameBehaviours) (one_automaton : OneAutomaton) (move : AutomatonOfSameBehaviours)
-    (one_node : OneNode) (one_unit : OneUnit) (move_node : NodeOfSameBehaviours) (move_unit : UnitOfSameBehaviours) where
+    (one_node : OneNode) (one_unit : OneUnit) (one_tables : OneTables) (move_node : NodeOfSameBehaviours) (move_unit : UnitOfSameBehaviours)
+    (move_tables : TablesOfSameBehaviours) where
   pub equal_meanings : EqualMeanings
   equal_meanings kind name other_name limits other_limits held other_held file other_file one another mean answer other_answer =
       let r = report_of one_tree kind name limits held file one answer in
@@ -49,13 +50,13 @@ module _ (one_tree : SpellsOne) (one_verdict : OneVerdict) (move_verdict : Verdi
       let same : r.verdict ≡ s.verdict =
       one_verdict (length file.variables) (models other_file) r.verdict s.verdict moved (subst (λ k. IsVerdict k (models other_file) s.verdict) count s.is_verdict) in
       let says =
-      says_of_same move move_node move_unit (length file.variables) (models file) (models other_file) (texts_of file.variables) r.counts mean.same_models r.verdict one.out kind r.says in
+      says_of_same move move_node move_unit move_tables (length file.variables) (models file) (models other_file) (texts_of file.variables) r.counts mean.same_models r.verdict one.out kind r.says in
       let other_says =
       subst (λ (names : List (List ℕ)). Says kind (length file.variables) (models other_file) names s.counts s.verdict another.out) (sym mean.same_names)
       (subst (λ k. Says kind k (models other_file) (texts_of other_file.variables) s.counts s.verdict another.out) count s.says) in
       record {
         status = r.status ∙ ap status_of_verdict same ∙ sym s.status;
         report =
-            one_meaning one_automaton one_node one_unit (length file.variables) (models other_file) (texts_of file.variables) r.verdict s.verdict r.counts s.counts one.out another.out kind same says other_says;
+            one_meaning one_automaton one_node one_unit one_tables (length file.variables) (models other_file) (texts_of file.variables) r.verdict s.verdict r.counts s.counts one.out another.out kind same says other_says;
         message = r.no_message ∙ sym s.no_message;
       }

@@ -1,17 +1,18 @@
--- What is right for `all` is what its user is promised.
+-- What is right for `all` and for `tables` is what their user is promised.
 use Rattle.dcv_c.specs.Observer.{observer_of as unit_of}
+use Rattle.dcv_c_tables.specs.Observer.{tables_of}
 use Rattle.dcv_lustre.specs.Observer.{observer_of as node_of}
 use Rattle.dcv_cli.proofs.Common.{◌≡◌, ◌↔◌, ℕ, Bool, true, false, List, length, map, Option, None, Some, refl, sym, ap, ◌∙◌, subst}
 use Rattle.dcv_cli.proofs.Common.{IsSomeAnd, not, false≢true, Word, PlainFile, models, Language, IsLeastOf, Verdict, verdict_text}
 use Rattle.dcv_cli.proofs.Common.{SpellsOne, core_of_file, AutomatonFile, Limits, WithinExcludesOver, IsWithinBudget}
-use Rattle.dcv_cli.proofs.Common.{texts_of, all_text, All, Request, Report, Only, Status, Valid, NotValid, steps_of_file, kind_of}
+use Rattle.dcv_cli.proofs.Common.{texts_of, all_text, Kind, All, Tables, Request, Report, Only, Status, Valid, NotValid, steps_of_file, kind_of}
 use Rattle.dcv_cli.proofs.Common.{IsBudgeted, OverBudget, WithinBudget, IsFormulaFile, OnText, Refused, Read, Outcome, IsReport, Fulfils}
 use Rattle.dcv_cli.proofs.Common.{Misused, Fulfilled, status_of_verdict}
 use Rattle.dcv_language.specs.Language.{HasEvery, outside}
 use Rattle.dcv_lustre.specs.Observer.{input_names}
 use Rattle.dcv_c.specs.Observer.{parameter_name}
 use Rattle.dcv_print.specs.Laws.{AutomatonHasFewestStates}
-use Rattle.dcv_cli.specs.Headline.{AllIsSaid, IsAnswered, FirstFault, FirstStep, Said, Headline, HeadlineIsComplete}
+use Rattle.dcv_cli.specs.Headline.{AllIsSaid, TablesAreSaid, IsAnswered, FirstFault, FirstStep, Said, Answers, IsComplete, Headline, HeadlineIsComplete, TablesHeadline, TablesHeadlineIsComplete}
 use Rattle.dcv_cli.proofs.FormulaFiles.{one_file, refused_or_read}
 use Rattle.dcv_cli.proofs.OneRequest.{one_request}
 
@@ -50,7 +51,25 @@ unit_parameters_are : (file : AutomatonFile) → (unit_of file).parameters ≡ m
 unfolding unit_of
 unit_parameters_are file = refl
 
+table_parameters_are : (file : AutomatonFile) → (tables_of file).parameters ≡ map parameter_name file.names
+unfolding tables_of
+table_parameters_are file = refl
+
 -- ---- what is said
+
+tables_are_said : (limits : Limits) (file : PlainFile) (outcome : Outcome) → IsReport Tables limits file outcome → TablesAreSaid file outcome
+tables_are_said limits file outcome is =
+    let says = is.says in
+    let (valid, not_valid) = verdict_exactly (length file.variables) (models file) is.verdict is.is_verdict.counterexample in
+    record {
+      tables = tables_of says.file;
+      report = says.says;
+      parameters = table_parameters_are says.file ∙ ap (map parameter_name) says.of.variables;
+      observes = says.observes;
+      valid = (λ e. valid.0 (sym is.status ∙ e), λ every. is.status ∙ valid.1 every);
+      not_valid = (λ e. not_valid.0 (sym is.status ∙ e), λ some. is.status ∙ not_valid.1 some);
+      no_message = is.no_message;
+    }
 
 module _ (fewest : AutomatonHasFewestStates) where
   all_is_said : (limits : Limits) (file : PlainFile) (outcome : Outcome) → IsReport All limits file outcome → AllIsSaid file outcome
@@ -86,31 +105,47 @@ module _ (fewest : AutomatonHasFewestStates) where
         no_message = is.no_message;
       }
 
-  on_text : (text : List ℕ) (limits : Limits) (outcome : Outcome) → OnText text Only (IsBudgeted limits Only (IsReport All limits)) outcome → IsAnswered text limits outcome
+-- ---- what is answered
+
+module _ (kind : Kind) (IsSaid : PlainFile → Outcome → Type 0) (said : (limits : Limits) (file : PlainFile) (outcome : Outcome) → IsReport kind limits file outcome → IsSaid file outcome) where
+  on_text : (text : List ℕ) (limits : Limits) (outcome : Outcome) → OnText text Only (IsBudgeted limits Only (IsReport kind limits)) outcome
+      → IsAnswered IsSaid text limits outcome
   on_text text limits outcome (Refused refusal is e) = FirstFault refusal is e
   on_text text limits outcome (Read file is (OverBudget over first e)) = FirstStep file is over first e
-  on_text text limits outcome (Read file is (WithinBudget within report)) = Said file is (all_is_said limits file outcome report)
+  on_text text limits outcome (Read file is (WithinBudget within report)) = Said file is (said limits file outcome report)
 
-  pub headline : Headline
-  headline words held name limits text outcome asks there (Misused not s o) = absurd (not asks.taken)
-  headline words held name limits text outcome asks there (Fulfilled request asked right) =
+  answers : Answers kind IsSaid
+  answers words held name limits text outcome asks there (Misused not s o) = absurd (not asks.taken)
+  answers words held name limits text outcome asks there (Fulfilled request asked right) =
       on_text text limits outcome
-      (subst (λ (found : Option (List ℕ)). IsSomeAnd found (λ bytes. OnText bytes Only (IsBudgeted limits Only (IsReport All limits)) outcome)) there
-      (subst (λ (request : Request). Fulfils request held outcome) (one_request words request (Report All name limits) asked asks) right))
+      (subst (λ (found : Option (List ℕ)). IsSomeAnd found (λ bytes. OnText bytes Only (IsBudgeted limits Only (IsReport kind limits)) outcome)) there
+      (subst (λ (request : Request). Fulfils request held outcome) (one_request words request (Report kind name limits) asked asks) right))
 
-  -- ---- where all can be said
+  -- ---- where it can be said
 
   module _ (one_tree : SpellsOne) (none_over : WithinExcludesOver) where
     said_within : (text : List ℕ) (limits : Limits) (outcome : Outcome) (file : PlainFile) → IsFormulaFile text file → IsWithinBudget (steps_of_file file) limits
-        → IsAnswered text limits outcome → AllIsSaid file outcome
+        → IsAnswered IsSaid text limits outcome → IsSaid file outcome
     said_within text limits outcome file formula within (FirstFault refusal is e) = absurd (refused_or_read one_tree text refusal file is formula)
     said_within text limits outcome file formula within (FirstStep other is over first e) =
         let same = one_file one_tree text file other formula is in
         absurd (none_over (length other.variables) (core_of_file other) limits (kind_of over.excess) over.step
         (subst (λ (f : PlainFile). IsWithinBudget (steps_of_file f) limits) same within) first.is_over)
     said_within text limits outcome file formula within (Said other is said) =
-        subst (λ (f : PlainFile). AllIsSaid f outcome) (one_file one_tree text other file is formula) said
+        subst (λ (f : PlainFile). IsSaid f outcome) (one_file one_tree text other file is formula) said
 
-    pub headline_is_complete : HeadlineIsComplete
-    headline_is_complete words held name limits text outcome file asks there right formula within =
-        said_within text limits outcome file formula within (headline words held name limits text outcome asks there right)
+    is_complete : IsComplete kind IsSaid
+    is_complete words held name limits text outcome file asks there right formula within =
+        said_within text limits outcome file formula within (answers words held name limits text outcome asks there right)
+
+pub headline : AutomatonHasFewestStates → Headline
+headline fewest = answers All AllIsSaid (all_is_said fewest)
+
+pub headline_is_complete : AutomatonHasFewestStates → SpellsOne → WithinExcludesOver → HeadlineIsComplete
+headline_is_complete fewest = is_complete All AllIsSaid (all_is_said fewest)
+
+pub tables_headline : TablesHeadline
+tables_headline = answers Tables TablesAreSaid tables_are_said
+
+pub tables_headline_is_complete : SpellsOne → WithinExcludesOver → TablesHeadlineIsComplete
+tables_headline_is_complete = is_complete Tables TablesAreSaid tables_are_said

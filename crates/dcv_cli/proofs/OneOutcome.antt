@@ -16,7 +16,7 @@ use Rattle.dcv_sentence.specs.Faults.{FaultIsUnique}
 use Rattle.dcv_scope.specs.declared.faults.ScopeFault.TheVariants.{TooMany}
 use Rattle.dcv_explore.specs.Budget.{Kind as KindOfExcess}
 use Rattle.dcv_build.specs.Laws.{OneStepIsOver, OneListOfCounts}
-use Rattle.dcv_print.specs.Laws.{OneNode, OneUnit}
+use Rattle.dcv_print.specs.Laws.{OneNode, OneUnit, OneTables}
 use Rattle.dcv_cli.proofs.Texts.{one_text}
 use Rattle.dcv_implies.specs.Comparison.{IsProductOver}
 use Rattle.dcv_cli.specs.Laws.{DifferInStep, DifferInProduct, DifferOnFile, DifferOnFiles, AgreeOn, InAll, ButForSuffixes, ButForTheLimit, Agree, Misusing, Asking, OneOutcome}
@@ -56,7 +56,7 @@ on_files limits text another_text bytes others file another there other_there fo
     subst (λ (found : Option (List ℕ)). DifferOnFiles limits found another_text a b) (sym there)
     (subst (λ (found : Option (List ℕ)). DifferOnFiles limits (Some bytes) found a b) (sym other_there) (file, another, formula, other_formula, differ))
 
-module _ (one_tree : SpellsOne) (one_fault : FaultIsUnique) (one_verdict : OneVerdict) (one_step : OneStepIsOver) (none_over : WithinExcludesOver) (one_list : OneListOfCounts) (one_automaton : OneAutomaton) (one_node : OneNode) (one_unit : OneUnit)
+module _ (one_tree : SpellsOne) (one_fault : FaultIsUnique) (one_verdict : OneVerdict) (one_step : OneStepIsOver) (none_over : WithinExcludesOver) (one_list : OneListOfCounts) (one_automaton : OneAutomaton) (one_node : OneNode) (one_unit : OneUnit) (one_tables : OneTables)
     (one_automaton_text : OneAutomatonText) (one_answer : OneAnswer) (one_comparison : OneComparison) (subsets : AreSubsets) (one_trace_verdict : OneTraceVerdict)
     (one_text_of_answers : OneTextOfAnswers) (one_summary : OneSummary)
     (one_synthesis_of : (inputs : ℕ) (file : PlainFile) (a b : Outcome) → IsSynthesisOf inputs file a → IsSynthesisOf inputs file b → a ≡ b) where
@@ -208,7 +208,7 @@ module _ (one_tree : SpellsOne) (one_fault : FaultIsUnique) (one_verdict : OneVe
       let counts : r.counts ≡ s.counts = one_list (length file.variables) (core_of_file file) limits r.counts s.counts r.are_counts s.are_counts in
       let status = r.status ∙ ap status_of_verdict same ∙ sym s.status in
       let message = r.no_message ∙ sym s.no_message in
-      elim (one_text one_automaton one_node one_unit (length file.variables) (models file) (texts_of file.variables) r.verdict s.verdict r.counts s.counts a.out b.out kind same
+      elim (one_text one_automaton one_node one_unit one_tables (length file.variables) (models file) (texts_of file.variables) r.verdict s.verdict r.counts s.counts a.out b.out kind same
       counts r.says s.says) [
         | inl out ↦ InAll (same_outcome a b status out message)
         | inr differ ↦ ButForSuffixes differ.0 status differ.1 message

@@ -3,8 +3,9 @@
 --     some_text      the text of a kind, for such a set
 use Rattle.dcv_cli.proofs.Common.{◌≡◌, ℕ, List, [], refl, sym, subst, Count, Language, HaveSameBehaviours, Verdict, verdict_text, WordLaws}
 use Rattle.dcv_cli.proofs.Common.{HasFile, AutomatonFile, table_of_states, RawValue, raw_accepts, ArePrintableCounts}
-use Rattle.dcv_cli.proofs.Common.{PrintedIsAutomaton, PrintedSaysNode, PrintedSaysUnit, AutomatonOfSameBehaviours, NodeOfSameBehaviours, UnitOfSameBehaviours, SaysNode, SaysUnit}
-use Rattle.dcv_cli.proofs.Common.{printed_file, all_text, Kind, Check, Automaton, Lustre, C, All, SaysAutomaton, SaysAll, Says}
+use Rattle.dcv_cli.proofs.Common.{PrintedIsAutomaton, PrintedSaysNode, PrintedSaysUnit, PrintedSaysTables, AutomatonOfSameBehaviours}
+use Rattle.dcv_cli.proofs.Common.{NodeOfSameBehaviours, UnitOfSameBehaviours, TablesOfSameBehaviours, SaysNode, SaysUnit, SaysTables}
+use Rattle.dcv_cli.proofs.Common.{printed_file, all_text, Kind, Check, Automaton, Lustre, C, Tables, All, SaysAutomaton, SaysAll, Says}
 use Rattle.dcv_language.specs.Certificate.{IsCertificate}
 use Rattle.dcv_language.specs.declared.certificate.Access.{Access}
 use Rattle.dcv_language.specs.declared.certificate.Suffix.{Suffix}
@@ -12,11 +13,13 @@ use Rattle.dcv_automaton_file.specs.File.{file_of}
 use Rattle.dcv_automaton_text.specs.Spelled.{spelled}
 use Rattle.dcv_c.specs.Layout as c
 use Rattle.dcv_c.specs.Observer.{observer_of as unit_of}
+use Rattle.dcv_c_tables.specs.Layout as tables
+use Rattle.dcv_c_tables.specs.Observer.{tables_of}
 use Rattle.dcv_certificate.specs.Proof.{IsProof}
 use Rattle.dcv_lustre.specs.Layout as lustre
 use Rattle.dcv_lustre.specs.Observer.{observer_of as node_of}
 use Rattle.dcv_print.specs.Automaton.{IsAutomatonOf}
-use Rattle.dcv_print.specs.Report.{IsLustreObserver, IsCObserver}
+use Rattle.dcv_print.specs.Report.{IsLustreObserver, IsCObserver, IsTablesObserver}
 use Rattle.dcv_quotient.proofs.SomeCertificates.{some_certificate_of}
 use Rattle.dcv_quotient.proofs.WordOrder.{word_laws}
 use Rattle.dcv_existence.proofs.SomeSpellings.{some_spellings, some_suffixes}
@@ -54,9 +57,11 @@ pub record PrintLaws : Type 0 where
   pub printed : PrintedIsAutomaton
   pub node : PrintedSaysNode
   pub unit : PrintedSaysUnit
+  pub tables : PrintedSaysTables
   pub move : AutomatonOfSameBehaviours
   pub move_node : NodeOfSameBehaviours
   pub move_unit : UnitOfSameBehaviours
+  pub move_tables : TablesOfSameBehaviours
 
 -- so its observers are observers of a set that it accepts
 module _ (print : PrintLaws) (raw : RawValue) (names : List (List ℕ)) (has_file : HasFile raw names) (counts : List Count) (few : ArePrintableCounts counts)
@@ -73,6 +78,11 @@ module _ (print : PrintLaws) (raw : RawValue) (names : List (List ℕ)) (has_fil
   says_unit text is =
       print.move_unit k (raw_accepts raw) L names text accepts
       (subst (λ k. SaysUnit k (raw_accepts raw) names text) slots (print.unit raw names has_proof.access has_proof.suffixes counts text has_file has_proof.proof few is))
+
+  pub says_tables : (text : List ℕ) → IsTablesObserver raw names text → SaysTables k L names text
+  says_tables text is =
+      print.move_tables k (raw_accepts raw) L names text accepts
+      (subst (λ k. SaysTables k (raw_accepts raw) names text) slots (print.tables raw names has_proof.access has_proof.suffixes counts text has_file has_proof.proof few is))
 
   pub says_automaton : (access : List Access) (suffixes : List Suffix) → IsProof raw access suffixes
       → SaysAutomaton k L names counts (spelled (printed_file raw names access suffixes counts))
@@ -98,6 +108,10 @@ module _ (print : PrintLaws) (raw : RawValue) (names : List (List ℕ)) (has_fil
   unfolding unit_of file_of
   is_unit access suffixes = refl
 
+  is_tables : IsTablesObserver raw names (tables.text_of (tables_of own_file))
+  unfolding tables_of file_of
+  is_tables access suffixes = refl
+
   some_node : (text : List ℕ) × SaysNode k L names text
   some_node = (lustre.text_of (node_of own_file), says_node (lustre.text_of (node_of own_file)) is_node)
 
@@ -118,4 +132,5 @@ module _ (print : PrintLaws) (raw : RawValue) (names : List (List ℕ)) (has_fil
   some_text Automaton verdict = some_automaton_text
   some_text Lustre verdict = some_node
   some_text C verdict = some_unit
+  some_text Tables verdict = (tables.text_of (tables_of own_file), says_tables (tables.text_of (tables_of own_file)) is_tables)
   some_text All verdict = some_all verdict

@@ -3,7 +3,7 @@
 use Rattle.dcv_cli.proofs.Common.{◌≡◌, ◌⊎◌, ℕ, List, [], ◌++◌, Some, inl, inr, refl, sym, ap, ◌∙◌, codes, append_assoc, IsTrue}
 use Rattle.dcv_cli.proofs.Common.{append-nil, Language, HaveSameBehaviours, Verdict, verdict_text, AutomatonFile}
 use Rattle.dcv_cli.proofs.Common.{Count, step_part_of, OneAutomaton, AutomatonOfSameBehaviours, NodeOfSameBehaviours}
-use Rattle.dcv_cli.proofs.Common.{UnitOfSameBehaviours, OneNode, OneUnit, all_text, Kind, Check, Automaton, Lustre, C, All, SaysAutomaton, Says}
+use Rattle.dcv_cli.proofs.Common.{UnitOfSameBehaviours, TablesOfSameBehaviours, OneNode, OneUnit, OneTables, all_text, Kind, Check, Automaton, Lustre, C, Tables, All, SaysAutomaton, Says}
 use Rattle.dcv_cli.proofs.Common.{SaysAll}
 use Rattle.dcv_automaton_text.specs.Spelled.{spelled}
 use Rattle.dcv_print.specs.Automaton.{IsAutomatonOf, AreSameUpToAccess, AreSameButForSuffixes, AreSpelledBy, DifferInSuffixes, AgreeUpToAccess}
@@ -24,7 +24,7 @@ around_automaton verdict automaton node unit =
 
 -- ---- one text
 
-module _ (one_automaton : OneAutomaton) (one_node : OneNode) (one_unit : OneUnit) (k : ℕ) (L : Language) (names : List (List ℕ)) where
+module _ (one_automaton : OneAutomaton) (one_node : OneNode) (one_unit : OneUnit) (one_tables : OneTables) (k : ℕ) (L : Language) (names : List (List ℕ)) where
   -- where the files of two automata are alike, whose steps took so much
   module _ (counts others : List Count) (Alike : AutomatonFile → AutomatonFile → Type 0)
       (alike : (f g : AutomatonFile) → IsAutomatonOf k L names f → IsAutomatonOf k L names g → f.steps ≡ Some (step_part_of counts)
@@ -65,6 +65,7 @@ module _ (one_automaton : OneAutomaton) (one_node : OneNode) (one_unit : OneUnit
     texts_alike v u one other Automaton same says says' = inr (refl, alone one other says says')
     texts_alike v u one other Lustre same says says' = inl (one_node k L names one other says says')
     texts_alike v u one other C same says says' = inl (one_unit k L names one other says says')
+    texts_alike v u one other Tables same says says' = inl (one_tables k L names one other says says')
     texts_alike v u one other All same says says' = inr (refl, in_all v u one other same says says')
 
   -- with the same counts
@@ -84,8 +85,8 @@ module _ (one_automaton : OneAutomaton) (one_node : OneNode) (one_unit : OneUnit
 
 -- ---- sets with the same behaviours
 
-module _ (move : AutomatonOfSameBehaviours) (move_node : NodeOfSameBehaviours) (move_unit : UnitOfSameBehaviours) (k : ℕ) (L M : Language) (names : List (List ℕ)) (counts : List Count)
-    (same : HaveSameBehaviours k L M) where
+module _ (move : AutomatonOfSameBehaviours) (move_node : NodeOfSameBehaviours) (move_unit : UnitOfSameBehaviours) (move_tables : TablesOfSameBehaviours)
+    (k : ℕ) (L M : Language) (names : List (List ℕ)) (counts : List Count) (same : HaveSameBehaviours k L M) where
   automaton_of_same : (text : List ℕ) → SaysAutomaton k L names counts text → SaysAutomaton k M names counts text
   automaton_of_same text says = record { automaton = says.automaton; is = move k L M names says.automaton same says.is; steps = says.steps; says = says.says }
 
@@ -94,6 +95,7 @@ module _ (move : AutomatonOfSameBehaviours) (move_node : NodeOfSameBehaviours) (
   says_of_same v text Automaton says = automaton_of_same text says
   says_of_same v text Lustre says = move_node k L M names text same says
   says_of_same v text C says = move_unit k L M names text same says
+  says_of_same v text Tables says = move_tables k L M names text same says
   says_of_same v text All says = record {
     automaton = says.automaton;
     node = says.node;

@@ -5,14 +5,14 @@
 use Rattle.std.specs.Prelude.{◌≡◌, ℕ, List, [], length}
 use Rattle.dcv_cli.specs.Common.{PlainFile, models, Language, Verdict, IsVerdict, verdict_text, Count, Limits}
 use Rattle.dcv_cli.specs.Common.{AreCounts, texts_of, all_text, Kind, Automaton, All}
-use Rattle.dcv_print.specs.Observers.{SaysNode, SaysUnit}
-use Rattle.dcv_language.specs.declared.kind.Kind.TheVariants.{Check, Lustre, C}
+use Rattle.dcv_print.specs.Observers.{SaysNode, SaysUnit, SaysTables}
+use Rattle.dcv_language.specs.declared.kind.Kind.TheVariants.{Check, Lustre, C, Tables}
 use Rattle.dcv_cli.specs.Automaton.{SaysAutomaton}
 use Rattle.dcv_cli.specs.Budget.{steps_of_file}
 use Rattle.dcv_cli.specs.Outcome.{Outcome}
 use Rattle.dcv_cli.specs.Status.{status_of_verdict}
 
--- all of them, each after a line that names it
+-- all but the tables, each after a line that names it
 pub record SaysAll (k : ℕ) (L : Language) (names : List (List ℕ)) (counts : List Count) (verdict : Verdict) (text : List ℕ) : Type 0 where
   pub automaton : List ℕ
   pub node : List ℕ
@@ -28,6 +28,7 @@ Says Check k L names counts verdict text = text ≡ verdict_text verdict
 Says Automaton k L names counts verdict text = SaysAutomaton k L names counts text
 Says Lustre k L names counts verdict text = SaysNode k L names text
 Says C k L names counts verdict text = SaysUnit k L names text
+Says Tables k L names counts verdict text = SaysTables k L names text
 Says All k L names counts verdict text = SaysAll k L names counts verdict text
 
 -- The status is that of the verdict of the behaviours that model the file, and of these the text says what is asked for.

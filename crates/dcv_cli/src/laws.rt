@@ -1,5 +1,5 @@
 //! Laws on what is right, each the contract of a function that does nothing.
-ghost use Rattle.dcv_cli.specs.Headline.{Headline, HeadlineIsComplete};
+ghost use Rattle.dcv_cli.specs.Headline.{Headline, HeadlineIsComplete, TablesHeadline, TablesHeadlineIsComplete};
 ghost use Rattle.dcv_cli.specs.Laws.{OneOutcome, SomeOutcome, EqualMeanings, PrintedIsCertified, ConvertedBackIsTheText, ImpliesBothWays, NeverStuckIsRealisable};
 
 use dcv_automaton_text::laws::{one_file as one_automaton_text, versions_stand_for_the_same};
@@ -32,10 +32,13 @@ use dcv_synth::laws::{
 /// is over the limits; or an automaton, a Lustre observer and a C observer are printed that each, by its own written meaning, accept exactly the
 /// behaviours that satisfy the formula, no automaton with fewer states does, as its printed words show, and the status is 0 exactly where
 /// every behaviour satisfies it, with a shortest counterexample where one does not. All of it is printed of each formula file whose steps are
-/// within the limits.
+/// within the limits. So is, for `tables`, an observer in constant tables, each step of which ends, reads nothing beyond an array, and looks at
+/// each variable once at most.
 pub fn headline()
     ensures answered { Headline }
     ensures complete { HeadlineIsComplete }
+    ensures tables { TablesHeadline }
+    ensures tables_complete { TablesHeadlineIsComplete }
 {
     one_tree();
     one_step_is_over();

@@ -16,7 +16,7 @@ use Rattle.clap.specs.Words.{Text}
 use Rattle.dcv_language.specs.Limits.{most_variables, most_states, most_nodes}
 use Rattle.dcv_explore.specs.declared.explorer.Limits.{Limits}
 use Rattle.dcv_language.specs.declared.kind.Kind.{Kind}
-use Rattle.dcv_language.specs.declared.kind.Kind.TheVariants.{Check, Automaton, Lustre, C, All}
+use Rattle.dcv_language.specs.declared.kind.Kind.TheVariants.{Check, Automaton, Lustre, C, Tables, All}
 use Rattle.dcv_command.specs.declared.words.Subset.{Subset}
 use Rattle.dcv_command.specs.declared.words.Subset.TheVariants.{Lustre as LustreText, C as CText}
 use Rattle.dcv_command.specs.declared.words.Version.{Version}
@@ -107,6 +107,7 @@ report_name Check = codes "check"
 report_name Automaton = codes "automaton"
 report_name Lustre = codes "lustre"
 report_name C = codes "c"
+report_name Tables = codes "tables"
 report_name All = codes "all"
 
 abbrev pub report : Kind → Command
@@ -164,5 +165,5 @@ sweep = record {
 
 abbrev pub commands : List Command
 commands =
-    report Check ∷ report Automaton ∷ report Lustre ∷ report C ∷ report All ∷ certify ∷ convert ∷ implies ∷ stuck ∷ synth ∷ replay LustreText
-    ∷ replay CText ∷ sweep ∷ []
+    report Check ∷ report Automaton ∷ report Lustre ∷ report C ∷ report Tables ∷ report All ∷ certify ∷ convert ∷ implies ∷ stuck ∷ synth
+    ∷ replay LustreText ∷ replay CText ∷ sweep ∷ []

@@ -12,12 +12,12 @@ use std::alloc::{AllocError, Global};
 
 const ABOUT: &str =
     "Decides whether a requirement about stretches of time, a formula of Quantified Discrete-time Duration Calculus, always holds. \
-Shows a shortest behaviour that breaks it, or the minimal automaton of the behaviours that satisfy it, or an observer of these. \
-Tells whether one requirement implies another, whether what has kept to a requirement so far can always go on, and whether an \
-automaton's text shows by its own words that it is minimal. \
-Writes such a text in another version. \
-Makes a controller that keeps to a requirement whatever its inputs are, or shows how the inputs beat every controller. \
-Replays traces through observers. Counts what holds of formulas that are drawn.";
+Shows a shortest behaviour that breaks it, the minimal automaton of the behaviours that satisfy it, or an observer of these. \
+Reports whether one requirement implies another, whether every behaviour that satisfied a requirement so far can go on, and whether \
+the words of an automaton's text prove that it is minimal. \
+Converts such a text to another version. \
+Synthesises a controller that satisfies a requirement for all inputs, or shows how the inputs beat every controller. \
+Replays traces through observers. Counts verdicts of drawn formulas.";
 
 const EXAMPLE_AND_STATUS: &str =
     "Example, with `var door_closed; infer [[door_closed]];` in the file door.dc:
@@ -30,6 +30,7 @@ const EXAMPLE_AND_STATUS: &str =
   dcvalid synth door.dc --inputs 0 | tail -n +2 > controller.c
   dcvalid c door.dc > door.c
   dcvalid replay-c door.c door.trace
+  dcvalid tables door.dc > door_tables.c
   dcvalid sweep 7 200
 The file door.trace has a line for each instant, with a digit for each variable: 1 where the door is closed.
 The report is on standard output, and the line of a fault on standard error. /dev/stdin is a file too.
@@ -37,9 +38,9 @@ The report is on standard output, and the line of a fault on standard error. /de
 Status:
   0  each behaviour satisfies the formula; the automaton is shown to be minimal; A implies B; there is a controller;
      the automaton's text was converted; the trace was read to its end; the drawn formulas are counted;
-     what has kept to the formula so far can always go on
+     every behaviour that satisfied the formula so far can go on
   1  some behaviour does not; the automaton is not shown to be minimal; A does not imply B; there is no controller;
-     some behaviour that has kept to the formula so far cannot go on
+     some behaviour that satisfied the formula so far cannot go on
   2  the words are no command, or ask for help
   3  a file holds no formula, for the fault that is named, at its offset in bytes; A and B declare different variables;
      there are fewer variables than inputs, or more than 8 outputs
@@ -142,24 +143,24 @@ const OVER_A_TRACE: [Argument<'static>; 2] = [
         "The trace: a line for each instant, with a digit 0 or 1 for each variable, or - where there is none" },
 ];
 
-static COMMANDS: [Entry<'static>; 13] = entries! {
+static COMMANDS: [Entry<'static>; 14] = entries! {
     "check" "Writes the verdict, with a shortest counterexample and a shortest example" OVER_A_FORMULA;
     "automaton" "Writes the minimal automaton, with words that show that it is minimal" OVER_A_FORMULA;
-    "lustre" "Writes an observer in a flat subset of Lustre, which tells at each instant whether the behaviour so far satisfies the formula" OVER_A_FORMULA;
+    "lustre" "Writes an observer in a flat subset of Lustre, which reports at each instant whether the behaviour so far satisfies the formula" OVER_A_FORMULA;
     "c" "Writes such an observer in a flat subset of C" OVER_A_FORMULA;
+    "tables" "Writes such an observer in constant tables of C: a step looks at each variable at most once, however many states there are" OVER_A_FORMULA;
     "all" "Writes the verdict, the automaton and both observers, each after a line that names it" OVER_A_FORMULA;
-    "certify" "Tells whether the words in an automaton's text show that it is minimal, and if not, of which state or two states they do not"
+    "certify" "Reports whether the words in an automaton's text prove that it is minimal, and if not, for which state or pair of states they do not"
         [argument! { "automaton", Form::Operand, Value::FileName, "AUTO", "The file with the automaton's text, as the command automaton writes it" }];
     "convert" "Writes an automaton's text in the version that is asked for: version 2 says of each step of the formula how many states and \
 nodes it had, and version 1 does not"
         [argument! { "automaton", Form::Operand, Value::FileName, "AUTO", "The file with the automaton's text, in either version" },
         argument! { "to", Form::Required, Value::Number(1, MOST_VERSION), "N", "The version, 1 or 2" }];
-    "implies" "Tells whether each behaviour that satisfies the formula of A satisfies that of B too, with a shortest one that does not"
+    "implies" "Reports whether each behaviour that satisfies the formula of A also satisfies that of B, with a shortest one that does not"
         [argument! { "first", Form::Operand, Value::FileName, "A", "The formula file that is to imply the other" },
         argument! { "second", Form::Operand, Value::FileName, "B", "The formula file that is to be implied, with the same variables in the same order" },
         STATES, NODES];
-    "stuck" "Tells whether a system that has kept to the formula at each instant so far can always go on, with a shortest behaviour after \
-which it cannot" OVER_A_FORMULA;
+    "stuck" "Reports whether every behaviour that satisfied the formula at each instant so far can go on, with a shortest one that cannot" OVER_A_FORMULA;
     "synth" "Writes a controller in a flat subset of C, whose outputs keep to the formula whatever its inputs are, or else moves of the \
 inputs that beat every controller"
         [FORMULA_FILE, argument! { "inputs", Form::Required, Value::Number(0, MOST_INPUTS), "N",

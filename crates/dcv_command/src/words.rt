@@ -149,6 +149,7 @@ fn request_named<'a>(name: &str, matches: &ArgMatches<'a>) -> Option<Request<'a>
         "automaton" => report_in(matches, Kind::Automaton),
         "lustre" => report_in(matches, Kind::Lustre),
         "c" => report_in(matches, Kind::C),
+        "tables" => report_in(matches, Kind::Tables),
         "all" => report_in(matches, Kind::All),
         "certify" => certify_in(matches),
         "convert" => convert_in(matches),

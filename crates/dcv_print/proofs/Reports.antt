@@ -6,15 +6,17 @@ use Rattle.dcv_automaton_text.specs.Spelled.{spelled}
 use Rattle.dcv_automaton_file.specs.File.{file_of}
 use Rattle.dcv_c.specs.Layout as c
 use Rattle.dcv_c.specs.Observer.{observer_of as unit_of}
+use Rattle.dcv_c_tables.specs.Layout as tables
+use Rattle.dcv_c_tables.specs.Observer.{tables_of}
 use Rattle.dcv_lustre.specs.Layout as lustre
 use Rattle.dcv_lustre.specs.Observer.{observer_of as node_of}
 use Rattle.dcv_certificate.specs.Proof.{IsProof}
 use Rattle.dcv_language.specs.declared.count.Count.{Count}
 use Rattle.dcv_dfa.specs.Raw.{RawValue}
-use Rattle.dcv_print.specs.Listed.{listed_file, lustre_text, c_text}
+use Rattle.dcv_print.specs.Listed.{listed_file, lustre_text, c_text, tables_text}
 use Rattle.dcv_print.specs.Printed.{texts_of, printed_file}
 use Rattle.dcv_print.specs.Sections.{all_text}
-use Rattle.dcv_print.specs.Report.{SpellsAutomaton, IsLustreObserver, IsCObserver}
+use Rattle.dcv_print.specs.Report.{SpellsAutomaton, IsLustreObserver, IsCObserver, IsTablesObserver}
 use Rattle.dcv_print.specs.declared.automaton_lines.Lined.{Lined}
 use Rattle.dcv_print.specs.declared.automaton_lines.Listed.{Listed}
 
@@ -58,3 +60,13 @@ pub says_unit : (lined : Lined) (raw : RawValue) (names : List Name) → lined.a
     → IsCObserver raw (texts_of names) (c_text lined)
 says_unit lined raw names same_raw same_names = λ access suffixes.
     (λ i. c.text_of (unit_of (file_of (same_raw i) (texts_of (same_names i)) [] []))) ∙ ap c.text_of (same_unit raw (texts_of names) access suffixes)
+
+same_tables : (raw : RawValue) (names : List (List ℕ)) (access : List AccessLine) (suffixes : List SuffixLine)
+    → tables_of (file_of raw names [] []) ≡ tables_of (file_of raw names access suffixes)
+unfolding tables_of file_of
+same_tables raw names access suffixes = refl
+
+pub says_tables : (lined : Lined) (raw : RawValue) (names : List Name) → lined.auto.now ≡ raw → lined.names.now ≡ names
+    → IsTablesObserver raw (texts_of names) (tables_text lined)
+says_tables lined raw names same_raw same_names = λ access suffixes.
+    (λ i. tables.text_of (tables_of (file_of (same_raw i) (texts_of (same_names i)) [] []))) ∙ ap tables.text_of (same_tables raw (texts_of names) access suffixes)

@@ -23,12 +23,13 @@ use Rattle.dcv_language.specs.declared.certificate.Suffix.{Suffix}
 use Rattle.dcv_certificate.specs.Proof.{AreSpelled, suffix_words, IsProof}
 use Rattle.dcv_automaton_file.specs.Laws.{HasFile}
 use Rattle.dcv_c.specs.Observer.{observer_of as unit_of}
+use Rattle.dcv_c_tables.specs.Observer.{tables_of}
 use Rattle.dcv_lustre.specs.Observer.{observer_of as node_of}
 use Rattle.dcv_print.specs.Counts.{ArePrintableCounts}
 use Rattle.dcv_print.specs.Automaton.{IsAutomatonOf, AreSameUpToAccess}
-use Rattle.dcv_print.specs.Observers.{SaysNode, SaysUnit}
+use Rattle.dcv_print.specs.Observers.{SaysNode, SaysUnit, SaysTables}
 use Rattle.dcv_print.specs.Printed.{printed_file}
-use Rattle.dcv_print.specs.Report.{IsLustreObserver, IsCObserver}
+use Rattle.dcv_print.specs.Report.{IsLustreObserver, IsCObserver, IsTablesObserver}
 
 abbrev pub IsPrintable : RawValue → List (List ℕ) → Type 0
 IsPrintable raw names = HasFile raw names
@@ -98,6 +99,9 @@ OneNode = (k : ℕ) (L : Language) (names : List (List ℕ)) (one other : List �
 abbrev pub OneUnit : Type 0
 OneUnit = (k : ℕ) (L : Language) (names : List (List ℕ)) (one other : List ℕ) → SaysUnit k L names one → SaysUnit k L names other → one ≡ other
 
+abbrev pub OneTables : Type 0
+OneTables = (k : ℕ) (L : Language) (names : List (List ℕ)) (one other : List ℕ) → SaysTables k L names one → SaysTables k L names other → one ≡ other
+
 -- and says one of each set with the same behaviours
 abbrev pub NodeOfSameBehaviours : Type 0
 NodeOfSameBehaviours = (k : ℕ) (L M : Language) (names : List (List ℕ)) (text : List ℕ) → HaveSameBehaviours k L M → SaysNode k L names text → SaysNode k M names text
@@ -105,12 +109,19 @@ NodeOfSameBehaviours = (k : ℕ) (L M : Language) (names : List (List ℕ)) (tex
 abbrev pub UnitOfSameBehaviours : Type 0
 UnitOfSameBehaviours = (k : ℕ) (L M : Language) (names : List (List ℕ)) (text : List ℕ) → HaveSameBehaviours k L M → SaysUnit k L names text → SaysUnit k M names text
 
+abbrev pub TablesOfSameBehaviours : Type 0
+TablesOfSameBehaviours =
+    (k : ℕ) (L M : Language) (names : List (List ℕ)) (text : List ℕ) → HaveSameBehaviours k L M → SaysTables k L names text → SaysTables k M names text
+
 -- both versions of a file have the same observers
 abbrev pub NodeOfVersions : Type 0
 NodeOfVersions = (file : AutomatonFile) → node_of (first_version file) ≡ node_of file
 
 abbrev pub UnitOfVersions : Type 0
 UnitOfVersions = (file : AutomatonFile) → unit_of (first_version file) ≡ unit_of file
+
+abbrev pub TablesOfVersions : Type 0
+TablesOfVersions = (file : AutomatonFile) → tables_of (first_version file) ≡ tables_of file
 
 -- the text of an automaton's observer says one of the behaviours that are accepted
 abbrev pub PrintedSaysNode : Type 0
@@ -122,3 +133,8 @@ abbrev pub PrintedSaysUnit : Type 0
 PrintedSaysUnit = (raw : RawValue) (names : List (List ℕ)) (access : List Access) (suffixes : List Suffix) (counts : List Count) (text : List ℕ)
     → IsPrintable raw names → IsProof raw access suffixes → ArePrintableCounts counts → IsCObserver raw names text
     → SaysUnit raw.arena.slots (raw_accepts raw) names text
+
+abbrev pub PrintedSaysTables : Type 0
+PrintedSaysTables = (raw : RawValue) (names : List (List ℕ)) (access : List Access) (suffixes : List Suffix) (counts : List Count) (text : List ℕ)
+    → IsPrintable raw names → IsProof raw access suffixes → ArePrintableCounts counts → IsTablesObserver raw names text
+    → SaysTables raw.arena.slots (raw_accepts raw) names text

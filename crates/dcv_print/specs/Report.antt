@@ -16,17 +16,19 @@ use Rattle.dcv_language.specs.declared.count.Count.{Count}
 use Rattle.dcv_dfa.specs.Raw.{RawValue, raw_accepts}
 use Rattle.dcv_c.specs.Layout as c
 use Rattle.dcv_c.specs.Observer.{observer_of as unit_of}
+use Rattle.dcv_c_tables.specs.Layout as tables
+use Rattle.dcv_c_tables.specs.Observer.{tables_of}
 use Rattle.dcv_lustre.specs.Layout as lustre
 use Rattle.dcv_lustre.specs.Observer.{observer_of as node_of}
-use Rattle.dcv_print.specs.Listed.{listed_file, lustre_text, c_text, IsLined}
+use Rattle.dcv_print.specs.Listed.{listed_file, lustre_text, c_text, tables_text, IsLined}
 use Rattle.dcv_print.specs.Printed.{printed_file}
 use Rattle.dcv_print.specs.Sections.{all_text}
 use Rattle.dcv_print.specs.Verdict.{seen_verdict}
 use Rattle.dcv_print.specs.declared.automaton_lines.Listed.{Listed}
 use Rattle.dcv_language.specs.declared.kind.Kind.{Kind}
-use Rattle.dcv_language.specs.declared.kind.Kind.TheVariants.{Check, Automaton, Lustre, C, All}
+use Rattle.dcv_language.specs.declared.kind.Kind.TheVariants.{Check, Automaton, Lustre, C, Tables, All}
 use Rattle.dcv_print.specs.declared.report.Content.{Content}
-use Rattle.dcv_print.specs.declared.report.Content.TheVariants.{Verdict as TheVerdict, Automaton as TheAutomaton, Lustre as TheNode, C as TheUnit, All as TheSections}
+use Rattle.dcv_print.specs.declared.report.Content.TheVariants.{Verdict as TheVerdict, Automaton as TheAutomaton, Lustre as TheNode, C as TheUnit, Tables as TheTables, All as TheSections}
 use Rattle.dcv_print.specs.declared.verdict_lines.Verdict.{Verdict as CodeVerdict}
 
 pub record ReportValue : Type 0 where
@@ -49,7 +51,11 @@ abbrev pub IsCObserver : RawValue → List (List ℕ) → List ℕ → Type 0
 IsCObserver raw names text =
     (access : List AccessLine) (suffixes : List SuffixLine) → text ≡ c.text_of (unit_of (file_of raw names access suffixes))
 
--- the verdict, the automaton and both observers, each after its line
+abbrev pub IsTablesObserver : RawValue → List (List ℕ) → List ℕ → Type 0
+IsTablesObserver raw names text =
+    (access : List AccessLine) (suffixes : List SuffixLine) → text ≡ tables.text_of (tables_of (file_of raw names access suffixes))
+
+-- the verdict, the automaton and both flat observers, each after its line
 pub record SpellsAll (raw : RawValue) (names : List (List ℕ)) (counts : List Count) (verdict text : List ℕ) : Type 0 where
   pub automaton : List ℕ
   pub node : List ℕ
@@ -74,6 +80,7 @@ Says Check raw names counts report = report.text ≡ verdict_text report.verdict
 Says Automaton raw names counts report = SpellsAutomaton raw names counts report.text
 Says Lustre raw names counts report = IsLustreObserver raw names report.text
 Says C raw names counts report = IsCObserver raw names report.text
+Says Tables raw names counts report = IsTablesObserver raw names report.text
 Says All raw names counts report = SpellsAll raw names counts (verdict_text report.verdict) report.text
 
 -- ---- how a report of the code is seen
@@ -86,6 +93,7 @@ text_of verdict TheVerdict = verdict_text (seen_verdict verdict)
 text_of verdict (TheAutomaton listed) = spelled (listed_file listed)
 text_of verdict (TheNode lined) = lustre_text lined
 text_of verdict (TheUnit lined) = c_text lined
+text_of verdict (TheTables lined) = tables_text lined
 text_of verdict (TheSections listed) = text_of_sections (verdict_text (seen_verdict verdict)) listed
 
 abbrev pub seen_report : CodeVerdict → Content → ReportValue
@@ -96,4 +104,5 @@ IsContent TheVerdict = Unit {0}
 IsContent (TheAutomaton listed) = IsLined listed.lined
 IsContent (TheNode lined) = IsLined lined
 IsContent (TheUnit lined) = IsLined lined
+IsContent (TheTables lined) = IsLined lined
 IsContent (TheSections listed) = IsLined listed.lined

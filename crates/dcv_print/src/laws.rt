@@ -2,7 +2,7 @@
 ghost use Rattle.dcv_print.specs.Laws.{PrintedIsSpellable, PrintedIsGood, PrintedTable, PrintedAccess, PrintedSuffixes, PrintedSteps};
 ghost use Rattle.dcv_print.specs.Laws.{OneNode, OneUnit, NodeOfSameBehaviours, UnitOfSameBehaviours, PrintedSaysNode, PrintedSaysUnit};
 ghost use Rattle.dcv_print.specs.Laws.{PrintedIsReadBack, PrintedIsAutomaton, OneAutomaton, AutomatonOfSameBehaviours, AutomatonHasFewestStates};
-ghost use Rattle.dcv_print.specs.Laws.{NodeOfVersions, UnitOfVersions};
+ghost use Rattle.dcv_print.specs.Laws.{NodeOfVersions, UnitOfVersions, TablesOfVersions, OneTables, TablesOfSameBehaviours, PrintedSaysTables};
 
 use dcv_automaton_read::laws::good_texts_are_read;
 use dcv_automaton_text::laws::words_show_fewest_states;
@@ -67,8 +67,10 @@ pub fn automaton_has_fewest_states()
 pub fn one_observer()
     ensures node { OneNode }
     ensures unit { OneUnit }
+    ensures tables { OneTables }
     ensures node_of_same { NodeOfSameBehaviours }
     ensures unit_of_same { UnitOfSameBehaviours }
+    ensures tables_of_same { TablesOfSameBehaviours }
 {
     one_automaton();
     automaton_of_same_behaviours();
@@ -78,16 +80,19 @@ pub fn one_observer()
 pub fn versions_have_the_same_observers()
     ensures node { NodeOfVersions }
     ensures unit { UnitOfVersions }
+    ensures tables { TablesOfVersions }
 {}
 
-/// The texts of an automaton's observers are read as these, and both accept the behaviours that the automaton accepts.
+/// The flat texts of an automaton's observers are read as these. They and its tables accept the behaviours that the automaton accepts.
 pub fn printed_observers_observe()
     ensures node { PrintedSaysNode }
     ensures unit { PrintedSaysUnit }
+    ensures tables { PrintedSaysTables }
 {
     printed_is_automaton();
     dcv_lustre::laws::observers_accept_the_same();
     dcv_lustre::laws::texts_spell_nodes();
     dcv_c::laws::observers_accept_the_same();
     dcv_c::laws::texts_spell_units();
+    dcv_c_tables::laws::tables_accept_as_the_file();
 }

@@ -11,7 +11,7 @@ ghost use Rattle.dcv_print.specs.Counts.{ArePrintableCounts};
 ghost use Rattle.dcv_print.specs.Printed.{texts_of};
 ghost use Rattle.dcv_language.specs.VerdictText.{verdict_text};
 ghost use Rattle.dcv_language.specs.Limits.{most_states, most_nodes};
-ghost use Rattle.dcv_print.specs.Listed.{lustre_text, c_text, IsLined};
+ghost use Rattle.dcv_print.specs.Listed.{lustre_text, c_text, tables_text, IsLined};
 ghost use Rattle.dcv_print.specs.Report.{Says, SpellsAllBy, text_of_sections, seen_report, IsContent};
 ghost use Rattle.dcv_print.specs.Verdict.{seen_verdict};
 ghost use Rattle.dcv_print.specs.declared.verdict_lines.Verdict.{Verdict as CodeVerdict};
@@ -34,6 +34,7 @@ pub(crate) enum Content<'a> {
     Automaton(Listed<'a>),
     Lustre(Lined<'a>),
     C(Lined<'a>),
+    Tables(Lined<'a>),
     All(Listed<'a>),
 }
 
@@ -52,6 +53,14 @@ impl Lined<'_> {
         ensures { Puts (T.standing target.old) (T.standing target.new) (c_text self.now) }
     {
         dcv_c::put_observer(target, self.auto, self.names, &self.nodes);
+    }
+
+    // Puts the text of the observer in constant tables of C.
+    fn put_tables<T: Target>(&self, target: &mut T)
+        requires { IsLined self.now }
+        ensures { Puts (T.standing target.old) (T.standing target.new) (tables_text self.now) }
+    {
+        dcv_c_tables::put_tables(target, self.auto, self.names, &self.nodes);
     }
 }
 
@@ -200,6 +209,7 @@ impl<'a> Report<'a> {
             Content::Automaton(listed) => listed.put(target),
             Content::Lustre(lined) => lined.put_lustre(target),
             Content::C(lined) => lined.put_c(target),
+            Content::Tables(lined) => lined.put_tables(target),
             Content::All(listed) => listed.put_sections(&self.verdict, target),
         }
     }
@@ -225,6 +235,7 @@ fn content_of<'a>(
         Kind::Automaton => Ok(Content::Automaton(Listed::new(alloc, auto, names, counts)?)),
         Kind::Lustre => Ok(Content::Lustre(Lined::new(alloc, auto, names)?)),
         Kind::C => Ok(Content::C(Lined::new(alloc, auto, names)?)),
+        Kind::Tables => Ok(Content::Tables(Lined::new(alloc, auto, names)?)),
         Kind::All => Ok(Content::All(Listed::new(alloc, auto, names, counts)?)),
     }
 }

@@ -6,7 +6,7 @@ use Rattle.dcv_io.specs.Disk.{Disk, held_of}
 use Rattle.dcv_syntax.specs.Plain.{PlainFile}
 use Rattle.dcv_explore.specs.declared.explorer.Limits.{Limits}
 use Rattle.dcv_language.specs.declared.kind.Kind.{Kind}
-use Rattle.dcv_language.specs.declared.kind.Kind.TheVariants.{All}
+use Rattle.dcv_language.specs.declared.kind.Kind.TheVariants.{All, Tables}
 use Rattle.dcv_replay.specs.Observer.{Observer}
 use Rattle.dcv_command.specs.Request.{Request, Report, Certify, Implies, Stuck, Synth, Replay}
 use Rattle.dcv_command.specs.declared.words.Subset.{Subset}
@@ -16,7 +16,7 @@ use Rattle.dcv_cli.specs.declared.status.Status.{Status}
 use Rattle.dcv_cli.specs.Comparison.{IsCompared}
 use Rattle.dcv_cli.specs.Ending.{EndsBy}
 use Rattle.dcv_cli.specs.FormulaFile.{OnText, Refused, Read}
-use Rattle.dcv_cli.specs.Headline.{Headline, IsAnswered}
+use Rattle.dcv_cli.specs.Headline.{AllIsSaid, TablesAreSaid, Answers, Headline, TablesHeadline, IsAnswered}
 use Rattle.dcv_cli.specs.Held.{Texts, OnHeld}
 use Rattle.dcv_cli.specs.ObserverFile.{OnObserver, Refused as RefusedObserver, Read as ReadObserver}
 use Rattle.dcv_cli.specs.Outcome.{Outcome}
@@ -71,16 +71,27 @@ module _ (words : List (List ℕ)) (told : Option Disk) where
   reported kind name limits text asks holds b status old new P = ends_also b (IsRightOver words told) (IsReported kind text limits) status old new P
       (on_one (Report kind name limits) name text (λ text. IsReported kind text limits) asks holds (λ held outcome on. on))
 
-  pub answered : Headline → (name : List ℕ) (limits : Limits) (text : List ℕ) → AsksFor words (Report All name limits) → Holds told name text
+  answered_by : (kind : Kind) (IsSaid : PlainFile → Outcome → Type 0) → Answers kind IsSaid → (name : List ℕ) (limits : Limits) (text : List ℕ)
+      → AsksFor words (Report kind name limits) → Holds told name text
       → (b : Bool) (status : Status) (old new : Option (List ℕ)) (P : List ℕ → Type 0)
-      → OnTrue b (EndsBy (IsRightOver words told) status old new P) → OnTrue b (EndsBy (IsAnswered text limits) status old new P)
-  answered headline name limits text asks holds b status old new P = ends_also b (IsRightOver words told) (IsAnswered text limits) status old new P (λ outcome right.
-      headline words right.held name limits text outcome asks (held_text (held_of told) holds right.held right.same) right.holds)
+      → OnTrue b (EndsBy (IsRightOver words told) status old new P) → OnTrue b (EndsBy (IsAnswered IsSaid text limits) status old new P)
+  answered_by kind IsSaid answers name limits text asks holds b status old new P = ends_also b (IsRightOver words told) (IsAnswered IsSaid text limits) status old new P (λ outcome right.
+      answers words right.held name limits text outcome asks (held_text (held_of told) holds right.held right.same) right.holds)
     where
       held_text : (found : Option (List ℕ → Option (List ℕ))) → IsSomeAnd found (λ held. held name ≡ Some text) → (texts : Texts)
           → IfSome found (λ held. (time : ℕ) → texts time ≡ held) → texts 0 name ≡ Some text
       held_text None there texts same = elim there [ ]
       held_text (Some held) there texts same = ap (λ (held : List ℕ → Option (List ℕ)). held name) (same 0) ∙ there
+
+  pub answered : Headline → (name : List ℕ) (limits : Limits) (text : List ℕ) → AsksFor words (Report All name limits) → Holds told name text
+      → (b : Bool) (status : Status) (old new : Option (List ℕ)) (P : List ℕ → Type 0)
+      → OnTrue b (EndsBy (IsRightOver words told) status old new P) → OnTrue b (EndsBy (IsAnswered AllIsSaid text limits) status old new P)
+  answered = answered_by All AllIsSaid
+
+  pub tables_answered : TablesHeadline → (name : List ℕ) (limits : Limits) (text : List ℕ) → AsksFor words (Report Tables name limits) → Holds told name text
+      → (b : Bool) (status : Status) (old new : Option (List ℕ)) (P : List ℕ → Type 0)
+      → OnTrue b (EndsBy (IsRightOver words told) status old new P) → OnTrue b (EndsBy (IsAnswered TablesAreSaid text limits) status old new P)
+  tables_answered = answered_by Tables TablesAreSaid
 
   pub certified : (name text : List ℕ) → AsksFor words (Certify name) → Holds told name text
       → (b : Bool) (status : Status) (old new : Option (List ℕ)) (P : List ℕ → Type 0)

@@ -3,7 +3,7 @@ ghost use Rattle.std.specs.Prelude.{ℕ, List};
 ghost use Rattle.dcv_explore.specs.declared.explorer.Limits.{Limits};
 ghost use Rattle.dcv_language.specs.declared.kind.Kind.TheVariants.{All};
 ghost use Rattle.dcv_command.specs.Request.{Report};
-ghost use Rattle.dcv_cli.specs.Headline.{IsAnswered};
+ghost use Rattle.dcv_cli.specs.Headline.{AllIsSaid, IsAnswered};
 ghost use Rattle.dcv_cli.specs.Request.{AsksFor};
 ghost use Rattle.dcv_promises.specs.Promises.{Holds, Ends, seen};
 
@@ -24,7 +24,7 @@ pub fn all<F: Files, O: Sink, E: Sink>(
 ) -> Status
     ensures answered { (name : List ℕ) (limits : Limits) (text : List ℕ)
         → AsksFor words.now (Report All name limits) → Holds (F.told files.old) name text
-        → Ends (IsAnswered text limits) result (seen (O.written out.old) (E.written err.old) (E.faults err.old))
+        → Ends (IsAnswered AllIsSaid text limits) result (seen (O.written out.old) (E.written err.old) (E.faults err.old))
         (seen (O.written out.new) (E.written err.new) (E.faults err.new)) }
 {
     headline();

@@ -1,4 +1,4 @@
-//! `check`, `automaton`, `lustre`, `c` and `all`: a report on a formula file.
+//! `check`, `automaton`, `lustre`, `c`, `tables` and `all`: a report on a formula file.
 ghost use Rattle.std.specs.Prelude.{ℕ, List};
 ghost use Rattle.dcv_explore.specs.declared.explorer.Limits.{Limits};
 ghost use Rattle.dcv_language.specs.declared.kind.Kind.{Kind};
@@ -10,9 +10,9 @@ use dcv_cli::{Status, Words, run};
 use dcv_io::{Files, Sink};
 use std::alloc::Global;
 
-/// `check FILE`, `automaton FILE`, `lustre FILE`, `c FILE` and `all FILE`: the first fault of the text is named, or the first step that is over
-/// the limits; or what is written is the report that is asked for, on exactly the behaviours that satisfy the formula, and the status is that of
-/// their verdict.
+/// `check FILE`, `automaton FILE`, `lustre FILE`, `c FILE`, `tables FILE` and `all FILE`: the first fault of the text is named, or the first step
+/// that is over the limits; or what is written is the report that is asked for, on exactly the behaviours that satisfy the formula, and the status
+/// is that of their verdict.
 #[tactic(auto, using(crate::proofs::Asked::reported))]
 pub fn report<F: Files, O: Sink, E: Sink>(
     alloc: Global,

@@ -6,7 +6,7 @@ use Rattle.dcv_cli.proofs.laws.one_outcome.Goals as goal
 pub returns : goal.returns
 returns c =
     one_outcome c.one_tree.ensures.text c.one_fault.ensures c.one_verdict.ensures c.one_step_is_over.ensures.one c.one_step_is_over.ensures.within c.one_list_of_counts.ensures c.one_automaton.ensures
-    c.one_observer.ensures.node c.one_observer.ensures.unit c.one_file.ensures c.one_answer.ensures c.one_answer-2.ensures
+    c.one_observer.ensures.node c.one_observer.ensures.unit c.one_observer.ensures.tables c.one_file.ensures c.one_answer.ensures c.one_answer-2.ensures
     (record {
       one_node = c.texts_spell_nodes.ensures.one;
       one_node_fault = c.texts_are_nodes_or_at_fault.ensures.one;

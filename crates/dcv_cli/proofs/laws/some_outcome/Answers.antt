@@ -33,9 +33,11 @@ returns c =
       printed = c.printed_is_automaton.ensures;
       node = c.printed_observers_observe.ensures.node;
       unit = c.printed_observers_observe.ensures.unit;
+      tables = c.printed_observers_observe.ensures.tables;
       move = c.automaton_of_same_behaviours.ensures;
       move_node = c.one_observer.ensures.node_of_same;
       move_unit = c.one_observer.ensures.unit_of_same;
+      move_tables = c.one_observer.ensures.tables_of_same;
     }) in
     let syntheses : SomeSynthesis = λ inputs limits range text file formula.
     some_synthesised word_laws accept models_are game inputs limits file range.within.few_states range.within.few_nodes (are_names short text file formula) formula.has_core in

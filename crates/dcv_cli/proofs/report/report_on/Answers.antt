@@ -11,9 +11,11 @@ returns c k L of =
       printed = c.printed_is_automaton.ensures;
       node = c.printed_observers_observe.ensures.node;
       unit = c.printed_observers_observe.ensures.unit;
+      tables = c.printed_observers_observe.ensures.tables;
       move = c.automaton_of_same_behaviours.ensures;
       move_node = c.one_observer.ensures.node_of_same;
       move_unit = c.one_observer.ensures.unit_of_same;
+      move_tables = c.one_observer.ensures.tables_of_same;
     }) c.verdict_of_same_behaviours.ensures
     c.tables_accept_the_same.ensures.accepts built.auto (texts_of names) built.counts.items
     (record {

@@ -1,7 +1,7 @@
 use Rattle.std.proofs.Common.{refl}
 use Rattle.dcv_automaton_text.specs.Spelled.{spelled}
 use Rattle.dcv_print.specs.Listed.{listed_file, lustre_text, c_text}
-use Rattle.dcv_print.proofs.Reports.{spells, says_node, says_unit}
+use Rattle.dcv_print.proofs.Reports.{spells, says_node, says_unit, says_tables}
 use Rattle.dcv_print.proofs.report.content_of.Goals as goal
 
 pub returns-in_ok-new-in-Automaton-clause-says : goal.returns-in_ok-new-in-Automaton-clause-says
@@ -18,6 +18,11 @@ pub returns-in_ok-new-in-C-clause-says : goal.returns-in_ok-new-in-C-clause-says
 returns-in_ok-new-in-C-clause-says c verdict =
     let all = c.in_ok-new-in-C.ensures in
     rw c.in-C.is (says_unit c.in_ok-new-in-C.field-0 c.args.auto.now c.args.names.now all.auto all.names)
+
+pub returns-in_ok-new-in-Tables-clause-says : goal.returns-in_ok-new-in-Tables-clause-says
+returns-in_ok-new-in-Tables-clause-says c verdict =
+    let all = c.in_ok-new-in-Tables.ensures in
+    rw c.in-Tables.is (says_tables c.in_ok-new-in-Tables.field-0 c.args.auto.now c.args.names.now all.auto all.names)
 
 pub returns-in_ok-new-in-All-clause-says : goal.returns-in_ok-new-in-All-clause-says
 returns-in_ok-new-in-All-clause-says c verdict =

@@ -1,0 +1,32 @@
+//! `tables`, in the words of the logic and of the tables alone.
+ghost use Rattle.std.specs.Prelude.{ℕ, List};
+ghost use Rattle.dcv_explore.specs.declared.explorer.Limits.{Limits};
+ghost use Rattle.dcv_language.specs.declared.kind.Kind.TheVariants.{Tables};
+ghost use Rattle.dcv_command.specs.Request.{Report};
+ghost use Rattle.dcv_cli.specs.Headline.{TablesAreSaid, IsAnswered};
+ghost use Rattle.dcv_cli.specs.Request.{AsksFor};
+ghost use Rattle.dcv_promises.specs.Promises.{Holds, Ends, seen};
+
+use dcv_cli::laws::headline;
+use dcv_cli::{Status, Words, run};
+use dcv_io::{Files, Sink};
+use std::alloc::Global;
+
+/// `tables FILE`: constant tables that accept, by their own meaning, exactly the behaviours that satisfy the formula. Each step ends, reads
+/// nothing beyond an array, and looks at each variable once at most. The status is 0 exactly where each behaviour satisfies the formula.
+#[tactic(auto, using(crate::proofs::Asked::tables_answered))]
+pub fn tables<F: Files, O: Sink, E: Sink>(
+    alloc: Global,
+    words: &Words,
+    files: &mut F,
+    out: &mut O,
+    err: &mut E,
+) -> Status
+    ensures answered { (name : List ℕ) (limits : Limits) (text : List ℕ)
+        → AsksFor words.now (Report Tables name limits) → Holds (F.told files.old) name text
+        → Ends (IsAnswered TablesAreSaid text limits) result (seen (O.written out.old) (E.written err.old) (E.faults err.old))
+        (seen (O.written out.new) (E.written err.new) (E.faults err.new)) }
+{
+    headline();
+    run(alloc, words, files, out, err)
+}
