@@ -39,7 +39,8 @@ FILES = {
 # each command, over what is made below too
 COMMANDS = [
     ["check", "each.dc"], ["check", "large.dc"], ["check", "nested.dc"], ["check", "fault.dc"], ["check", "response.dc", "--states", "3"],
-    ["check", "edge.dc"], ["automaton", "both.dc"], ["lustre", "each.dc"], ["c", "each.dc"], ["all", "response.dc"],
+    ["check", "edge.dc"], ["automaton", "both.dc"], ["lustre", "each.dc"], ["c", "each.dc"], ["tables", "each.dc"],
+    ["all", "response.dc"],
     ["certify", "both.aut"], ["convert", "both.aut", "--to", "1"], ["convert", "both.aut", "--to", "2"], ["certify", "each.dc"],
     ["replay-lustre", "response.lus", "trace"], ["replay-c", "response.c", "trace"], ["replay-lustre", "names.lus", "trace"],
     ["replay-c", "names.c", "trace"], ["implies", "each.dc", "edge.dc"], ["implies", "edge.dc", "edge.dc"], ["synth", "response.dc", "--inputs", "1"],

@@ -15,6 +15,12 @@ run() {
   [ "$got" = "$1 $2" ] || { echo "FAILED: $3 of $4: wanted '$1 $2', got '$got'"; failed=1; }
 }
 
+# tables STATUS NAME: the same of the tables, whose first line has counts
+tables() {
+  (ulimit -s 2048 && exec "$program" tables "$work/text" >"$work/tables")
+  [ $? = "$1" ] && grep -q '^enum { states = ' "$work/tables" || { echo "FAILED: tables of $2"; failed=1; }
+}
+
 # row STATUS LINE NAME TEXT..: a text in pieces, and the first line of what is written of it
 row() {
   local status=$1 line=$2 name=$3
@@ -22,7 +28,7 @@ row() {
   printf '%s' "$@" >"$work/text"
   run "$status" "$line" check "$name"
   case $status in
-    0 | 1) run "$status" 'automaton 2' automaton "$name" ;;
+    0 | 1) run "$status" 'automaton 2' automaton "$name" && tables "$status" "$name" ;;
     *) run "$status" "$line" automaton "$name" && run "$status" "$line" stuck "$name" ;;
   esac
   rows=$((rows + 1))
