@@ -27,7 +27,7 @@ HABITS = [(re.compile(pattern), instead) for pattern, instead in (
     (r"\b[Ww]hat (it takes|they take|is held|is asked|was asked|is told|is taken|wins|one asks|stands|goes|comes|each|was|were|had)\b", "a noun: cost, contents, request"),
     (r"\b[Ss]tands?\b(?! for\b)|\b[Ss]tood\b", "is, is defined in, is listed in"),
     (r"\b([Tt]ell|[Tt]ells|[Tt]old|[Tt]elling)\b", "report, print, return, expose, distinguish"),
-    (r"(?<![Tt]here )\b(is|are|was|were) (no|none)\b(?! (longer|more|fewer|later|earlier|smaller|larger|greater)\b)", "is not a"),
+    (r"(?<![Tt]here )\b(is|are|was|were) (no|none)\b(?! (\w+er|more)\b)", "is not a"),
     (r"\bby custom\b", "by default"),
     (r"(?<!nothing )(?<!something )(?<!someone )(?<!anything )(?<!everything )\b[Ee]lse\b", "otherwise"),
     (r"\b[Bb]ehind\b", "after"),
@@ -155,7 +155,7 @@ def sections(path: str, text: str) -> Iterator[Line]:
 def paths(lines: List[Line]) -> Iterator[Line]:
     """Files and folders between backticks that are nowhere."""
     for number, line in lines:
-        for name in re.findall(r"`((?:docs|tests|bench|crates|examples|patterns|workbench|plants|dcv_\w+)/[\w./-]*)", line):
+        for name in re.findall(r"`((?:docs|tests|bench|crates|examples|patterns|workbench|dcv_\w+)/[\w./-]*)", line):
             name = name.rstrip(".").removesuffix("/")
             if re.search(r"NAME|MODULE|\bdcv_x\b|\.\.|_$|/out\b", name):
                 continue
