@@ -86,6 +86,7 @@ def whats(lines: List[Line]) -> Iterator[Line]:
 def sentences(line: str) -> int:
     """How many sentences a line has; a bold beginning is part of the first."""
     count, start = 1, 0
+    line = re.sub(r"^\s*([-*]|\d+\.) ", "", line)
     for end in re.finditer(r"[.?!][)\"'*_`]*\s+(?=[A-Z`*\[(\"])", line):
         head = line[start:end.end()].rstrip()
         if head.count("`") % 2 == 0 and not ABBREVIATION.search(head) and head.count("(") <= head.count(")") and not (head.endswith("**") and head.count("**") == 2):
