@@ -99,11 +99,13 @@ def is_prose(line: str) -> bool:
 
 
 def broken_lines(lines: List[Line]) -> Iterator[Line]:
-    """Lines with two sentences, and sentences that go over two lines."""
+    """Lines with two sentences, unless each line is a whole paragraph, and sentences that go over two lines."""
     before, last = "", 0
+    numbers = {number for number, line in lines if is_prose(line)}
+    of_sentences = any(number - 1 in numbers and not re.match(r"\s*([-*]|\d+\.) ", line) for number, line in lines if number in numbers)
     for number, line in lines:
         if is_prose(line) or re.match(r"\s+\S", line):
-            if sentences(line) > 1:
+            if of_sentences and sentences(line) > 1:
                 yield number, "two sentences in one line"
             begins = re.match(r"\s*([-*]|\d+\.) ", line)
             if before and last == number - 1 and not begins and not re.search(r"[.:?!;][)\"'*_`]*$|^</?\w+>$", before):
