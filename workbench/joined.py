@@ -1,9 +1,9 @@
 """Several requirements in one file: joined by the names of their variables, with their macros renamed apart."""
 import os
 from dataclasses import dataclass, replace
-from typing import List
+from typing import Callable, Dict, Iterable, Iterator, List, Optional, Sequence, Set, Tuple
 
-from language import File, parse, to_text
+from language import File, Tree, parse, to_text
 
 MOST_NAMES = 16
 
@@ -14,40 +14,46 @@ class Requirement:
 
     name: str
     path: str
-    text: str = None
-    fault: List[str] = None
-    file: File = None
+    text: Optional[str] = None
+    fault: Optional[List[str]] = None
+    file: Optional[File] = None
 
     @property
-    def variables(self):
+    def variables(self) -> Tuple[str, ...]:
         return self.file.variables if self.file else ()
 
+    @property
+    def whole(self) -> File:
+        """The file of one without a fault."""
+        assert self.file is not None
+        return self.file
 
-def named(paths):
+
+def named(paths: Sequence[str]) -> List[Tuple[str, str]]:
     """Each path with a name for the table: the file's own where no other has it."""
     short = [os.path.basename(path)[:-3] if path.endswith(".dc") else os.path.basename(path) for path in paths]
     return [(name if short.count(name) == 1 else path, path) for name, path in zip(short, paths)]
 
 
-def names_of(requirements, first=()):
+def names_of(requirements: Iterable[Requirement], first: Sequence[str] = ()) -> List[str]:
     """The variables of all, each once; those of `first` that occur stand in front."""
     found = dict.fromkeys(name for it in requirements for name in it.variables)
     return [name for name in first if name in found] + [name for name in found if name not in first]
 
 
-def words_of(requirements):
+def words_of(requirements: Iterable[Requirement]) -> Set[str]:
     """All names that occur in the requirements, but those of macros."""
-    found = set()
+    found: Set[str] = set()
     for it in requirements:
-        found.update(it.file.variables)
-        for tree in [it.file.goal] + [macro.body for macro in it.file.macros.values()]:
+        found.update(it.variables)
+        for tree in [it.whole.goal] + [macro.body for macro in it.whole.macros.values()]:
             found.update(part.value for part in tree.walk() if part.kind in ("name", "ex", "all"))
-        for macro in it.file.macros.values():
+        for macro in it.whole.macros.values():
             found.update(macro.parameters)
     return found
 
 
-def fresh_prefix(requirements, letter):
+def fresh_prefix(requirements: Sequence[Requirement], letter: str) -> str:
     """A prefix that no name of the requirements begins with."""
     words, prefix = words_of(requirements), letter
     while any(word.startswith(prefix) for word in words):
@@ -55,22 +61,22 @@ def fresh_prefix(requirements, letter):
     return prefix
 
 
-def renamed(tree, names):
+def renamed(tree: Tree, names: Dict[str, str]) -> Tree:
     """A tree whose calls of macros have their new names."""
     value = names.get(tree.value, tree.value) if tree.kind in ("name", "call") else tree.value
     return replace(tree, value=value, parts=tuple(renamed(part, names) for part in tree.parts))
 
 
-def macro_lines(requirement, prefix, number):
+def macro_lines(requirement: Requirement, prefix: str, number: int) -> Iterator[str]:
     """The macros of a requirement with names of their own, and its goal as the macro PREFIX + number."""
-    names = {name: f"{prefix}{number}_{place}" for place, name in enumerate(requirement.file.macros)}
-    for macro in requirement.file.macros.values():
+    names = {name: f"{prefix}{number}_{place}" for place, name in enumerate(requirement.whole.macros)}
+    for macro in requirement.whole.macros.values():
         parameters = f"({', '.join(macro.parameters)})" if macro.parameters else ""
         yield f"{macro.kind} {names[macro.name]}{parameters} as {to_text(renamed(macro.body, names))};"
-    yield f"define {prefix}{number} as {to_text(renamed(requirement.file.goal, names))};"
+    yield f"define {prefix}{number} as {to_text(renamed(requirement.whole.goal, names))};"
 
 
-def joined(requirements, names=None, first=()):
+def joined(requirements: Sequence[Requirement], names: Optional[Sequence[str]] = None, first: Sequence[str] = ()) -> str:
     """A file whose formula is that of all the requirements together; `names` may declare more variables."""
     prefix = fresh_prefix(requirements, "r")
     declared = names if names is not None else names_of(requirements, first)
@@ -81,7 +87,7 @@ def joined(requirements, names=None, first=()):
     return "\n".join(lines + [f"infer {together};", ""])
 
 
-def read_requirement(name, path, expanded):
+def read_requirement(name: str, path: str, expanded: Callable[[str], Tuple[Optional[str], Optional[List[str]]]]) -> Requirement:
     """A requirement of the set; `expanded(path)` gives the text in the language and the lines of a fault, one of both None."""
     try:
         text, fault = expanded(path)

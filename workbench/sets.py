@@ -60,7 +60,7 @@ class Questions:
         try:
             return question()
         except Refusal as refusal:
-            if refusal.status not in (3, 4):
+            if not refusal.over_limits:
                 raise
             why = "more than 8 outputs" if refusal.message == "fault outputs" else f"over a limit of the language ({refusal.message})"
             raise Unanswered("over the budget" if refusal.over_budget else why) from None
@@ -254,7 +254,7 @@ def run(options, program):
     if strange:
         print(f"ask set: no file has a variable {strange[0]}", file=sys.stderr)
         return 2
-    with ThreadPoolExecutor(max(1, options.jobs)) as pool:
+    with program.side_by_side(max(1, options.jobs)) as pool:
         answers = Survey(requirements, Questions(program, inputs), pool, inputs).run()
     print_report(answers, program.runs, time.time() - start)
     if options.junit:
