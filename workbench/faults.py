@@ -1,12 +1,12 @@
 """Refusals of the program in the words of a person: the line with a mark below the place, and what the fault means."""
 import re
-from typing import List, Optional
+from typing import List, Optional, Tuple
 
 import expand
 import hints
 import repairs
 from language import MOST_BYTES
-from program import Fault, Program, Refusal, fault_of
+from program import NO_PROGRAM, Fault, Program, Refusal, fault_of
 from shapes import SourceFault
 from spots import Spot
 
@@ -67,16 +67,19 @@ def repaired(program: Program, text: str, fault: Fault) -> List[str]:
     return lines
 
 
-def explained(refusal: Refusal, path: Optional[str], name: str, program: Program) -> List[str]:
-    """The lines to print for a refusal of one of ./ask's questions; `path` is where FILE's text is, or None, and `name` how it was given."""
+def explained(refusal: Refusal, path: Optional[str], name: str, program: Program) -> Tuple[List[str], int]:
+    """The lines to print for a refusal of one of ./ask's questions, and the status; `path` is where FILE's text is, or None, and `name`
+    how it was given. A fault in a question that the command itself made is the workbench's own."""
     said = [line for line in (refusal.message, *hints.of_message(refusal.message)) if line]
     if refusal.status not in (3, 4) or not path or not refusal.texts:
-        return said
+        return said, refusal.status
     text = refusal.texts[-1 if refusal.message.endswith(" in second") else 0]
     try:
         whole = expand.Text(path, name)
     except (OSError, SourceFault):
-        return said
-    if whole.text != text:
-        return said + ["  That was said of a text that this command made; --show writes it."]
-    return whole.refused(refusal.message) or described(name, text, refusal.message, program)
+        return said, refusal.status
+    if whole.text == text:
+        return whole.refused(refusal.message) or described(name, text, refusal.message, program), refusal.status
+    if refusal.over_limits:
+        return said + ["  That was said of a text that this command made; --show writes it."], refusal.status
+    return said + ["  That was said of a text that this command made: a fault of the workbench. --show writes the text."], NO_PROGRAM

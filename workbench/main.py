@@ -63,9 +63,11 @@ def prepare() -> None:
         if not isinstance(stream, Shown):
             stream.flush()
             setattr(sys, name, Shown(stream.detach(), encoding=stream.encoding, errors="backslashreplace", line_buffering=name == "stderr"))
+    tempfile.gettempdir()  # it writes a file to find out, and so leaves none
     for number in SIGNALS:
         if signal.getsignal(number) != signal.SIG_IGN:
             signal.signal(number, stop)
+    signal.pthread_sigmask(signal.SIG_UNBLOCK, SIGNALS)
 
 
 def main(words: Sequence[str]) -> int:
@@ -147,8 +149,10 @@ def dispatched(words: List[str], program: Program) -> int:
             return int(module.run(options, program))
         except Refusal as refusal:
             sys.stdout.flush()
-            complain("\n".join(faults.explained(refusal, options.file, options.shown, program)))
-            return refusal.status
+            lines, status = faults.explained(refusal, options.file, options.shown, program)
+            if lines:
+                complain("\n".join(lines))
+            return status
 
 
 def keep_file(options: argparse.Namespace, room: str, command: Command) -> None:

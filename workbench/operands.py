@@ -23,7 +23,7 @@ class Question:
         self.wholes: Dict[int, Text] = {}  # the files that are sources
         for number, place in enumerate(self.places[1:3]):
             kept = os.path.join(room, str(number))
-            if self.command != "sweep" and is_stream(words[place]):
+            if self.command != "sweep" and (is_stream(words[place]) or os.path.isfile(words[place]) and not words[place].isprintable()):
                 copy_stream(words[place], kept, self.most)
                 self.words[place] = kept
             if self.command in OF_FORMULAS and os.path.isfile(self.words[place]) and os.access(self.words[place], os.R_OK):

@@ -129,7 +129,8 @@ class Program:
                 process.kill()
                 raise
             finally:
-                self.running.discard(process)
+                with self.lock:
+                    self.running.discard(process)
         return Answer(process.returncode, output.decode("latin-1"), said.decode("latin-1"))
 
     def stop(self) -> None:

@@ -165,7 +165,7 @@ def asked(program: Program, command: str, *texts: str, options: Sequence[str] = 
     except Refusal as refusal:
         if refusal.status == NO_PROGRAM or not part and not refusal.over_budget:
             raise
-        raise Cannot(f"the program refuses a part: {refusal.message}\n  {texts[0].strip()}" if part else f"over the budget: {refusal.message}") from None
+        raise Cannot(f"the program refuses a part: {refusal.message}\n  {texts[0].strip()[:400]}" if part else f"over the budget: {refusal.message}") from None
     return answer.status, answer.output
 
 

@@ -101,7 +101,7 @@ class Review(WithFolder):
             goal = expand(requirement.file)
             for place, variable in enumerate(requirement.variables):
                 for high in (True, False):
-                    asked, searched = review.near_miss(requirement, goal, variable, high), differing(requirement.automaton_read(), place, high)
+                    asked, searched = review.near_miss(requirement, goal, variable, high), differing(requirement.automaton_read, place, high)
                     self.assertEqual(bool(asked), bool(searched))
                     if asked and "over" not in (asked, searched):
                         found += 1
