@@ -1,9 +1,10 @@
 """Several requirements in one file: joined by the names of their variables, with their macros renamed apart."""
 import os
-from dataclasses import dataclass, replace
-from typing import Callable, Dict, Iterable, Iterator, List, Optional, Sequence, Set, Tuple
+import re
+from dataclasses import dataclass, field, replace
+from typing import Callable, Dict, FrozenSet, Iterable, Iterator, List, Optional, Sequence, Tuple
 
-from language import File, Tree, parse, to_text
+from language import File, Tree, parse, read_text, to_text
 
 MOST_NAMES = 16
 
@@ -14,9 +15,13 @@ class Requirement:
 
     name: str
     path: str
-    text: Optional[str] = None
+    text: str = ""
     fault: Optional[List[str]] = None
     file: Optional[File] = None
+    id: str = ""  # of its leading comment, as REQ-4711: in front of the sentence
+    sentence: str = ""
+    lines: Dict[Tuple[str, int], List[str]] = field(default_factory=dict)  # its macros, as they stand with others
+    words: FrozenSet[str] = frozenset()  # all names that occur in it, but those of macros
 
     @property
     def variables(self) -> Tuple[str, ...]:
@@ -41,21 +46,19 @@ def names_of(requirements: Iterable[Requirement], first: Sequence[str] = ()) -> 
     return [name for name in first if name in found] + [name for name in found if name not in first]
 
 
-def words_of(requirements: Iterable[Requirement]) -> Set[str]:
-    """All names that occur in the requirements, but those of macros."""
-    found: Set[str] = set()
-    for it in requirements:
-        found.update(it.variables)
-        for tree in [it.whole.goal] + [macro.body for macro in it.whole.macros.values()]:
-            found.update(part.value for part in tree.walk() if part.kind in ("name", "ex", "all"))
-        for macro in it.whole.macros.values():
-            found.update(macro.parameters)
-    return found
+def words_of(file: File) -> FrozenSet[str]:
+    """All names that occur in a requirement, but those of macros."""
+    found = set(file.variables)
+    for tree in [file.goal] + [macro.body for macro in file.macros.values()]:
+        found.update(part.value for part in tree.walk() if part.kind in ("name", "ex", "all"))
+    for macro in file.macros.values():
+        found.update(macro.parameters)
+    return frozenset(found)
 
 
 def fresh_prefix(requirements: Sequence[Requirement], letter: str) -> str:
     """A prefix that no name of the requirements begins with."""
-    words, prefix = words_of(requirements), letter
+    words, prefix = {word for it in requirements for word in it.words if word.startswith(letter)}, letter
     while any(word.startswith(prefix) for word in words):
         prefix += letter
     return prefix
@@ -82,15 +85,33 @@ def joined(requirements: Sequence[Requirement], names: Optional[Sequence[str]] =
     declared = names if names is not None else names_of(requirements, first)
     lines = [f"var {', '.join(declared)};"] if declared else []
     for number, it in enumerate(requirements):
-        lines += macro_lines(it, prefix, number)
+        if (prefix, number) not in it.lines:
+            it.lines[prefix, number] = list(macro_lines(it, prefix, number))
+        lines += it.lines[prefix, number]
     together = " && ".join(f"{prefix}{number}" for number in range(len(requirements)))
     return "\n".join(lines + [f"infer {together};", ""])
+
+
+def heading_of(text: str) -> Tuple[str, str]:
+    """The id and the sentence in the leading comment of a file, as in `// REQ-4711: The door stays locked.`"""
+    lines = []
+    for line in text.splitlines():
+        if not line.startswith("//"):
+            break
+        lines.append(line[2:].strip())
+    said = " ".join(lines).strip()
+    match = re.match(r"([A-Za-z][\w.]*[-_.]\d[\w.-]*|[A-Z]+\d[\w.-]*):\s*", said, re.A)
+    return (match.group(1), said[match.end():]) if match else ("", said)
 
 
 def read_requirement(name: str, path: str, expanded: Callable[[str], Tuple[Optional[str], Optional[List[str]]]]) -> Requirement:
     """A requirement of the set; `expanded(path)` gives the text in the language and the lines of a fault, one of both None."""
     try:
         text, fault = expanded(path)
+        head = heading_of(read_text(path).encode("latin-1").decode("utf-8", "replace")) if path else ("", "")
     except OSError as error:
-        text, fault = None, [f"{path}: {error.strerror}"]
-    return Requirement(name, path, text, fault, parse(text) if text is not None else None)
+        text, fault, head = None, [f"{path}: {error.strerror}"], ("", "")
+    if text is None:
+        return Requirement(name, path, fault=fault, id=head[0], sentence=head[1])
+    file = parse(text)
+    return Requirement(name, path, text, fault, file, *head, words=words_of(file))

@@ -13,6 +13,7 @@ from typing import Iterator, List, NamedTuple, Optional, Sequence, Set, TextIO
 
 from answers import SHAPES, Malformed, Word, check_shape, words_of
 from automaton import Automaton, read_automaton
+from kept import Kept
 
 ROOT = os.path.dirname(os.path.dirname(os.path.abspath(__file__)))
 SCRIPT = os.path.join(ROOT, "dcvalid")
@@ -78,6 +79,7 @@ class Program:
         self.show = show
         self.runs = 0
         self.stopped = False
+        self.kept: Optional[Kept] = None  # the answers that are kept
         self.running: Set["subprocess.Popen[bytes]"] = set()
         self.lock = threading.Lock()
 
@@ -155,6 +157,16 @@ class Program:
     def ask(self, command: str, *texts: str, options: Sequence[str] = ()) -> Answer:
         """The answer of a command about one or more texts. Status 0 and 1 are answers; any other raises Refusal."""
         self.shown(command, texts, options)
+        kept = self.kept.answer(command, texts, options) if self.kept else None
+        answer = Answer(*kept) if kept else self.answered(command, texts, options)
+        if self.kept and not kept:
+            self.kept.keep(command, texts, options, *answer)
+        if answer.status > 1:
+            raise Refusal(answer.status, answer.error.strip(), answer.output, texts)
+        return answer
+
+    def answered(self, command: str, texts: Sequence[str], options: Sequence[str]) -> Answer:
+        """A run on these texts: one is on standard input, and more are in files."""
         if len(texts) == 1:
             answer = self.run([command, "/dev/stdin", *options], texts[0])
         else:
@@ -164,8 +176,6 @@ class Program:
                     with open(path, "w", encoding="latin-1", newline="") as file:
                         file.write(text)
                 answer = self.run([command, *paths, *options])
-        if answer.status > 1:
-            raise Refusal(answer.status, answer.error.strip(), answer.output, texts)
         return answer
 
     def shown(self, command: str, texts: Sequence[str], options: Sequence[str]) -> None:
