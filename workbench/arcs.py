@@ -1,6 +1,12 @@
 """An automaton as a picture: its states side by side in the order of the text, arcs to later states above, to earlier ones below."""
+from typing import Dict, List, Tuple
+
+from automaton import Automaton
 from conditions import conditions, is_final
 from pictures import GRAY, GREEN, INK, RED, page, text_width, words
+
+Arc = Tuple[int, int, List[str]]  # from a state to another one, and the lines of its label
+Line = Tuple[str, int, str, str]  # its text, size, colour and weight
 
 MOST_STATES = 12  # a larger automaton is a table
 LINE, LABEL = 15, 13  # heights of a line in a box, and of one of a label
@@ -8,7 +14,7 @@ ARROW = (f'<defs><marker id="arrow" viewBox="0 0 8 8" refX="7" refY="4" markerWi
          f'<path d="M0 0L8 4L0 8z" fill="{INK}"/></marker></defs>')
 
 
-def lines_of(found):
+def lines_of(found: List[str]) -> List[str]:
     """Conditions as a few short lines."""
     joined = " or ".join(found)
     if len(joined) <= 26:
@@ -19,7 +25,7 @@ def lines_of(found):
 class Diagram:
     """Where everything of the picture stands."""
 
-    def __init__(self, automaton):
+    def __init__(self, automaton: Automaton) -> None:
         self.automaton = automaton
         edges = [conditions(automaton, state) for state in range(automaton.states)]
         self.lost = {state for state in range(automaton.states) if is_final(automaton, state) and not automaton.accept[state]}
@@ -31,17 +37,17 @@ class Diagram:
         self._measure()
         self.ports = self._ports()
 
-    def _box(self, state, edges):
+    def _box(self, state: int, edges: Dict[int, List[str]]) -> List[Line]:
         """The lines in a state's box: its number, by what it is kept, and by what the requirement is lost."""
         lines = [(str(state), 13, "#222", "bold")]
-        own = [(edges.get(state), "stays: ", "#333")] if state in edges else []
+        own = [(edges[state], "stays: ", "#333")] if state in edges else []
         own += [(found, "broken: ", RED) for target, found in edges.items() if target in self.lost and target != state]
         for found, head, color in own:
             for number, text in enumerate(lines_of(found)):
                 lines.append(((head if number == 0 else " " * len(head)) + text, 11, color, "normal"))
         return lines
 
-    def _measure(self):
+    def _measure(self) -> None:
         most_lines = max([len(label) for _, _, label in self.arcs], default=1)
         self.level = 44 + LABEL * (most_lines - 1)
         self.box_width = max([60] + [text_width(text, size) + 20 for box in self.boxes.values() for text, size, _, _ in box])
@@ -54,16 +60,16 @@ class Diagram:
         self.bottom = self.top + self.box_height
         self.size = (48 + self.distance * (len(self.shown) - 1) + self.box_width + 20, self.bottom + max(below, default=4) + 14)
 
-    def goes_on(self, arc):
+    def goes_on(self, arc: Arc) -> bool:
         return self.position[arc[1]] > self.position[arc[0]]
 
-    def height(self, arc):
+    def height(self, arc: Arc) -> int:
         return 26 + self.level * (abs(self.position[arc[1]] - self.position[arc[0]]) - 1)
 
-    def middle(self, state):
+    def middle(self, state: int) -> float:
         return 48 + self.position[state] * self.distance + self.box_width / 2
 
-    def _ports(self):
+    def _ports(self) -> Dict[Tuple[int, int, str], float]:
         """Where each arc touches a box: side by side, the long arcs nearest to the middle so that they go round the short ones."""
         ports = {}
         for on in (True, False):
@@ -79,7 +85,7 @@ class Diagram:
         return ports
 
 
-def automaton_svg(automaton, title):
+def automaton_svg(automaton: Automaton, title: str) -> str:
     drawn = Diagram(automaton)
     width = max(drawn.size[0], text_width(title, 13) + 24)
     parts, labels = [ARROW, words(12, 22, title, 13, INK, weight="bold")], []
@@ -94,7 +100,7 @@ def automaton_svg(automaton, title):
     return page(width, drawn.size[1], parts + labels)
 
 
-def _arc(drawn, arc):
+def _arc(drawn: Diagram, arc: Arc) -> Tuple[str, List[str]]:
     state, target, label = arc
     begin, end = drawn.ports[(state, target, "from")], drawn.ports[(state, target, "to")]
     y, sign = (drawn.top, -1) if drawn.goes_on(arc) else (drawn.bottom, 1)
@@ -110,7 +116,7 @@ def _arc(drawn, arc):
     return path, parts
 
 
-def _boxed(drawn, state):
+def _boxed(drawn: Diagram, state: int) -> List[str]:
     fill, edge = ("#e3f1e4", GREEN) if drawn.automaton.accept[state] else ("#f3d9d6", RED) if state in drawn.lost else ("#f4f4f4", GRAY)
     left = drawn.middle(state) - drawn.box_width / 2
     parts = [f'<rect x="{left:.1f}" y="{drawn.top}" width="{drawn.box_width:.1f}" height="{drawn.box_height}" rx="8" fill="{fill}" '

@@ -1,13 +1,9 @@
-"""The commands of ./ask and of dcvalid, in one table each, and how ./ask runs one. Completion and the man page are made of these."""
+"""The commands of ./ask and of dcvalid, in one table each; completion and the man page are made of these."""
 import argparse
+import importlib
 import importlib.util
-import os
-import sys
-import tempfile
-from typing import NamedTuple, Tuple
-
-import faults
-from program import Program, Refusal
+from types import ModuleType
+from typing import NamedTuple, Optional, Tuple
 
 
 class Option(NamedTuple):
@@ -64,7 +60,7 @@ PROGRAM = (
 MODULES = {"tests": "suite", "patterns": "catalogue", "set": "sets"}
 
 
-def listing():
+def listing() -> str:
     lines = ["Questions around a requirement, asked of dcvalid. Nothing here is proved; every verdict in an answer is the program's.", "",
              "  ./ask COMMAND ..", ""]
     for command in ASK:
@@ -72,7 +68,7 @@ def listing():
     return "\n".join(lines + ["", "Each command has --help. --show writes the files that the program is asked about. docs/WORKBENCH.md says more."])
 
 
-def parser_of(command):
+def parser_of(command: Command) -> argparse.ArgumentParser:
     """The parser of a command's words: --show and --help, and what its module adds by `add_arguments(parser)`."""
     parser = argparse.ArgumentParser(prog=f"ask {command.name}", description=command.summary[0].upper() + command.summary[1:] + ".")
     parser.add_argument("--show", action="store_true", help=SHOW.summary)
@@ -80,70 +76,23 @@ def parser_of(command):
     return parser
 
 
-def module_of(command):
-    """A command's module: it has `add_arguments(parser)` and `run(options, program)`, or `main(words)` for its own words."""
-    name = MODULES.get(command.name, command.name)
-    return importlib.import_module(name) if importlib.util.find_spec(name) else None
+def module_of(command: Command) -> ModuleType:
+    """A command's module: it has `add_arguments(parser)` and `run(options, program)`, or `main(words, program)` for its own words."""
+    return importlib.import_module(MODULES.get(command.name, command.name))
 
 
-def options_of(command):
+def options_of(command: Command) -> Tuple[Option, ...]:
     """The options of a command of ./ask: those of its parser, or where it has none those of the table."""
-    module = module_of(command)
-    if module is None or hasattr(module, "main"):
+    if hasattr(module_of(command), "main"):
         return command.options + (SHOW,)
     found = []
     for action in parser_of(command)._actions:
         name = next((word for word in action.option_strings if word.startswith("--")), "--help")
         if name != "--help":
-            value = "" if action.nargs == 0 else action.metavar or " | ".join(action.choices or ()) or name[2:].upper()
+            value = "" if action.nargs == 0 else str(action.metavar or " | ".join(action.choices or ()) or name[2:].upper())
             found.append(Option(name, value, action.help or ""))
     return tuple(found)
 
 
-def run(command, words):
-    """Runs a command; the status."""
-    module = module_of(command)
-    if module is None:
-        print(f"ask: {command.name} is not here yet", file=sys.stderr)
-        return 2
-    if hasattr(module, "main"):
-        return module.main(words)
-    options = parser_of(command).parse_args(words)
-    program = Program(show=options.show)
-    with tempfile.TemporaryDirectory() as room:
-        try:
-            keep_file(options, room)
-            return module.run(options, program)
-        except Refusal as refusal:
-            for line in faults.explained(refusal, options.file, options.shown, program):
-                print(line, file=sys.stderr)
-            return refusal.status
-        except OSError as error:
-            if isinstance(error, BrokenPipeError):  # the reader of the output has gone
-                os.dup2(os.open(os.devnull, os.O_WRONLY), sys.stdout.fileno())
-                return 6
-            print(f"ask {command.name}: {error.filename}: {error.strerror}", file=sys.stderr)
-            return 5
-
-
-def keep_file(options, room):
-    """A FILE that can be read once only is copied; `shown` is its name as it was given. `-` is standard input."""
-    options.shown = options.file = getattr(options, "file", None)
-    if options.file == "-" or options.file and os.path.exists(options.file) and not os.path.isfile(options.file) and not os.path.isdir(options.file):
-        with open(0 if options.file == "-" else options.file, "rb") as source, open(os.path.join(room, "text"), "wb") as copy:
-            copy.write(source.read())
-        options.file = os.path.join(room, "text")
-
-
-def main(words):
-    if not words or words[0] in ("-h", "--help", "help"):
-        print(listing())
-        return 0
-    for command in ASK:
-        if command.name == words[0]:
-            try:
-                return run(command, words[1:])
-            except KeyboardInterrupt:
-                return 130
-    print(f"ask: there is no command {words[0]}; ./ask lists those that there are", file=sys.stderr)
-    return 2
+def command_of(name: str) -> Optional[Command]:
+    return next((command for command in ASK if command.name == name), None)

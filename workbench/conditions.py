@@ -1,13 +1,19 @@
 """What the letters on the edges of an automaton have in common, as short propositions; and an automaton as a table of these."""
-from automaton import Choice
+from typing import Dict, List, Tuple
+
+from automaton import Automaton, Choice, Diagram
 from waves import in_line
+
+Cube = Dict[int, bool]  # the values of some variables
 
 MOST_PATHS = 400  # of a diagram with more paths than these, only where they lead is said
 
 
-def conditions(automaton, state):
+def conditions(automaton: Automaton, state: int) -> Dict[int, List[str]]:
     """For each state that one letter leads to from this one, propositions of which one holds of each such letter."""
-    cubes, todo, paths = {}, [(automaton.rows[state], ())], 0
+    cubes: Dict[int, List[Cube]] = {}
+    todo: List[Tuple[Diagram, Tuple[Tuple[int, bool], ...]]] = [(automaton.rows[state], ())]
+    paths = 0
     while todo:
         diagram, cube = todo.pop()
         if isinstance(diagram, Choice):
@@ -20,9 +26,9 @@ def conditions(automaton, state):
     return {target: [_spoken(automaton.variables, cube) for cube in merged(found)] for target, found in sorted(cubes.items())}
 
 
-def merged(cubes):
+def merged(cubes: List[Cube]) -> List[Cube]:
     """The same letters with fewer words: a literal is left out where its cube with it turned round lies in another cube."""
-    def lies_in(cube, other):
+    def lies_in(cube: Cube, other: Cube) -> bool:
         return all(cube.get(name) == value for name, value in other.items())
 
     again = True
@@ -41,23 +47,23 @@ def merged(cubes):
     return cubes
 
 
-def _spoken(variables, cube):
+def _spoken(variables: List[str], cube: Cube) -> str:
     return " && ".join(("" if value else "!") + variables[place] for place, value in sorted(cube.items())) or "any"
 
 
-def is_final(automaton, state):
+def is_final(automaton: Automaton, state: int) -> bool:
     """Whether no letter leads out of a state."""
     return set(automaton.targets(state)) == {state}
 
 
-def standing(automaton, state):
+def standing(automaton: Automaton, state: int) -> str:
     """What is so of the behaviours that lead to a state."""
     if is_final(automaton, state):
         return "holds for ever" if automaton.accept[state] else "broken for ever"
     return "holds so far" if automaton.accept[state] else "does not hold yet"
 
 
-def automaton_lines(automaton):
+def automaton_lines(automaton: Automaton) -> List[str]:
     """An automaton as text: each state with a shortest word that leads to it, and where its letters lead."""
     lines = []
     for state in range(automaton.states):

@@ -1,15 +1,20 @@
 """The command `draw`: a report, a formula's behaviours, an automaton or a trace as text, SVG or VCD."""
+import argparse
 import os
 import re
 import sys
+from typing import List, Optional, Sequence
 
 import faults
+from answers import Malformed, words_of
 from arcs import MOST_STATES, automaton_svg
-from automaton import read_automaton
+from automaton import Automaton, read_automaton
 from conditions import automaton_lines
-from language import parse, read_text
-from pictures import vcd, waves_svg
-from program import words_of
+from expand import Text
+from language import MOST_TEXT, Fault, parse, read_text
+from pictures import Behaviour, vcd, waves_svg
+from program import Program
+from streams import write_text
 from waves import heading, table, waves
 
 
@@ -17,7 +22,7 @@ class NotDrawn(Exception):
     """What was asked for cannot be drawn; the message says why."""
 
 
-def add_arguments(parser):
+def add_arguments(parser: argparse.ArgumentParser) -> None:
     parser.add_argument("file", metavar="FILE", help="a formula, a report, an automaton or a trace; - is standard input")
     parser.add_argument("--svg", metavar="OUT", help="writes an SVG file instead of text")
     parser.add_argument("--vcd", metavar="OUT", help="writes a behaviour as a VCD file, for GTKWave and the like")
@@ -27,14 +32,16 @@ def add_arguments(parser):
     parser.add_argument("--names", metavar="NAMES", help="the variables of a report or a trace, as request,grant, or a formula file that declares them")
 
 
-def run(options, program):
+def run(options: argparse.Namespace, program: Program) -> int:
     name = "standard input" if options.shown == "-" else os.path.basename(options.shown)
-    text = read_text(options.file)
+    text = read_text(options.file, MOST_TEXT)
     try:
         kind = faults.named_file(text)
         if kind == "the text of an automaton":
             return draw_automaton(read_automaton(text), name, options)
-        if kind in (None, "a formula file") and options.automaton:
+        if kind in (None, "a formula file"):
+            text, kind = Text(options.file, options.shown).text, None
+        if kind is None and options.automaton:
             return draw_automaton(program.automaton(text), name, options)
         found = behaviours(kind, text, name, options, program)
         if options.only:
@@ -43,22 +50,27 @@ def run(options, program):
     except NotDrawn as reason:
         print(f"ask draw: {reason}", file=sys.stderr)
         return 2
+    except Malformed as reason:
+        print(f"ask draw: {options.shown}: {reason}", file=sys.stderr)
+        return 10
 
 
-def behaviours(kind, text, name, options, program):
+def behaviours(kind: Optional[str], text: str, name: str, options: argparse.Namespace, program: Program) -> List[Behaviour]:
     """Behaviours with their titles and variables, and whether each is a counterexample."""
+    variables: Optional[List[str]] = None
+    comparison: Optional[str] = None
     if kind == "a trace":
-        word = text.split()
-        return [(f"{name}, {len(word)} instants", names(options, word), word, False)]
+        trace = text.split()
+        return [(f"{name}, {len(trace)} instants", names(options, trace), trace, False)]
     if kind in ("a report of check", "a report of all", "a report of implies"):
         found = words_of(text.split("--- automaton")[0])
         declared = re.search(r"^variables (.*)$", text, re.M)
         variables = declared.group(1).split() if declared and not options.names else None
         comparison = "meets the first requirement and not the second" if kind == "a report of implies" else None
-    elif kind in (None, "a formula file"):
+    elif kind is None:
         verdict = program.check(text)
         found = {what: word for what, word in (("counterexample", verdict.counterexample), ("example", verdict.example)) if word}
-        variables, comparison = list(parse(text).variables), None
+        variables = list(parse(text).variables)
     else:
         raise NotDrawn(f"{name} is {kind}, of which there is no picture")
     return [(f"{name}: " + heading("a shortest behaviour that " + (comparison or ("breaks it" if what == "counterexample" else "meets it")), word)[:-1],
@@ -66,14 +78,16 @@ def behaviours(kind, text, name, options, program):
             for what, word in found.items()]
 
 
-def names(options, word):
+def names(options: argparse.Namespace, word: Sequence[str]) -> List[str]:
     """The variables' names: as they are given, or as a formula file declares them, or numbers."""
     width = 0 if word[0] == "-" else len(word[0])
     given = [f"variable {place + 1}" for place in range(width)]
-    if options.names and os.path.exists(options.names):
-        given = list(parse(read_text(options.names)).variables)
+    if options.names and os.path.isfile(options.names):
+        given = declared_in(options.names)
     elif options.names:
         given = options.names.split(",")
+    if not all(letter == "-" or set(letter) <= {"0", "1"} for letter in word):
+        raise NotDrawn("it is no trace: an instant is digits 0 and 1, or -")
     if len(given) != width:
         raise NotDrawn(f"there are {len(given)} names for {width} variables")
     if any(len(letter) != len(word[0]) for letter in word):
@@ -81,7 +95,15 @@ def names(options, word):
     return given
 
 
-def draw_behaviours(found, options):
+def declared_in(path: str) -> List[str]:
+    """The variables that a formula file declares."""
+    try:
+        return list(parse(Text(path, path).text).variables)
+    except Fault as fault:
+        raise NotDrawn(f"{path} holds no formula: {fault}") from None
+
+
+def draw_behaviours(found: Sequence[Behaviour], options: argparse.Namespace) -> int:
     if not found:
         raise NotDrawn("there is no such behaviour")
     if options.svg:
@@ -95,7 +117,7 @@ def draw_behaviours(found, options):
     return 0
 
 
-def draw_automaton(automaton, name, options):
+def draw_automaton(automaton: Automaton, name: str, options: argparse.Namespace) -> int:
     states = f"{automaton.states} {'state' if automaton.states == 1 else 'states'}"
     if options.vcd:
         raise NotDrawn("a VCD file holds a behaviour, not an automaton")
@@ -109,8 +131,7 @@ def draw_automaton(automaton, name, options):
     return 0
 
 
-def written(path, text):
-    with open(path, "w", encoding="utf-8", newline="\n") as file:
-        file.write(text)
+def written(path: str, text: str) -> int:
+    write_text(path, text)
     print(f"written: {path}")
     return 0

@@ -1,76 +1,17 @@
 """Refusals of the program in the words of a person: the line with a mark below the place, and what the fault means."""
 import re
-import shutil
+from typing import List, Optional, Tuple
 
+import expand
 import hints
 import repairs
-from language import TOKEN, read_text
-from program import fault_of
+from language import MOST_BYTES
+from program import NO_PROGRAM, Fault, Program, Refusal, fault_of
+from shapes import SourceFault
+from spots import Spot
 
 
-class Spot:
-    """A place of a text: its row and column, its line as it is shown, and what stands before and after it."""
-
-    def __init__(self, text, place):
-        self.text, self.size = text, len(text)
-        self.begins_with_mark = text.startswith("\xef\xbb\xbf")
-        self.at_end = place >= len(text)
-        if self.at_end:  # the end of the last line that holds more than white space and comments
-            place = max([match.end() for match in TOKEN.finditer(text) if match.group("blank") is None], default=0)
-        self.place = place
-        self.row = text.count("\n", 0, place) + 1
-        self.start = text.rfind("\n", 0, place) + 1
-        end = text.find("\n", place)
-        self.line = text[self.start:len(text) if end < 0 else end].rstrip("\r")
-        self.rest = "" if self.at_end else self.line[place - self.start:]
-
-    @property
-    def front(self):
-        return self.line[:self.place - self.start]
-
-    @property
-    def column(self):
-        return len(shown(self.front.replace("\xef\xbb\xbf", "") if self.row == 1 else self.front)) + 1
-
-    def token(self):
-        match = re.match(r"[A-Za-z]\w*|[0-9]+|<=>|<=|>=|<>|=>|&&|\|\||\[\]|\[\[|\]\]|\{\{|\}\}", self.rest, re.A)
-        return match.group() if match else self.rest[:1]
-
-    def before(self):
-        """What stands in front of the place without comments and white space, and the row that it ends in."""
-        row = self.row
-        lines = self.text[:self.place].split("\n")[-200:]
-        for line in reversed(lines):
-            bare = re.sub(r"//.*", "", line).strip(" \t\r")
-            if bare:
-                return bare[-2000:], row
-            row -= 1
-        return "", row
-
-    def pointed(self):
-        """The line with its number, and a mark below the place. A line wider than the terminal is cut around it."""
-        line, front = self.line, self.front
-        if self.row == 1 and self.begins_with_mark:
-            line, front = line[3:], front[3:]
-        line, front = shown(line), shown(front)
-        room = max(40, shutil.get_terminal_size((100, 24)).columns - 10)
-        if len(line) > room:
-            cut = max(0, min(len(front) - room // 2, len(line) - room))
-            if cut:
-                line, front = "..." + line[cut + 3:], front[cut:]
-            if len(line) > room:
-                line = line[:room - 3] + "..."
-        blank = "".join("\t" if character == "\t" else " " for character in front)
-        return [f"{self.row:5} | {line}", f"      | {blank}^"]
-
-
-def shown(text):
-    """A text of bytes as characters; what no terminal shows is a question mark."""
-    characters = text.encode("latin-1").decode("utf-8", "replace")
-    return "".join(it if it == "\t" or it.isprintable() else "?" for it in characters)
-
-
-def named_file(text):
+def named_file(text: str) -> Optional[str]:
     """What kind of file a text is, where that is seen at its beginning; else nothing."""
     kinds = (
         (r"automaton [12]\n", "the text of an automaton"), (r"node \w+\s*\(", "an observer in Lustre"),
@@ -86,13 +27,13 @@ def named_file(text):
     return None
 
 
-def wrong_kind(text, *right):
+def wrong_kind(text: str, *right: str) -> List[str]:
     """A line that says what kind of file it is, where it is not the right one."""
     kind = named_file(text)
     return [f"  This is {kind}."] if kind and kind not in right else []
 
 
-def described(path, text, message, program=None):
+def described(path: str, text: str, message: str, program: Optional[Program] = None) -> List[str]:
     """The lines for a fault or a step over the budget that the program named in a text; with a program, what may stand there too."""
     fault = fault_of(message)
     if fault is not None:
@@ -112,10 +53,11 @@ def described(path, text, message, program=None):
     return [message, *hints.of_message(message)]
 
 
-def repaired(program, text, fault):
+def repaired(program: Program, text: str, fault: Fault) -> List[str]:
     """What may stand at a fault, and the one change after which no fault is left."""
-    lines, tokens = [], ()
-    if fault.kind in ("syntax", "byte"):
+    lines: List[str] = []
+    tokens: List[str] = []
+    if fault.kind in ("syntax", "byte") and fault.place + repairs.ROOM <= MOST_BYTES:
         tokens = repairs.may_stand(program, text, fault.place)
         lines.append(f"  May stand here: {repairs.spoken(text, fault.place, tokens)}")
     if fault.kind in ("syntax", "byte", "unknown", "kind"):
@@ -125,16 +67,19 @@ def repaired(program, text, fault):
     return lines
 
 
-def explained(refusal, path, name, program):
-    """The lines to print for a refusal of one of ./ask's questions; `path` is where FILE's text is, or None, and `name` how it was given."""
+def explained(refusal: Refusal, path: Optional[str], name: str, program: Program) -> Tuple[List[str], int]:
+    """The lines to print for a refusal of one of ./ask's questions, and the status; `path` is where FILE's text is, or None, and `name`
+    how it was given. A fault in a question that the command itself made is the workbench's own."""
     said = [line for line in (refusal.message, *hints.of_message(refusal.message)) if line]
     if refusal.status not in (3, 4) or not path or not refusal.texts:
-        return said
+        return said, refusal.status
     text = refusal.texts[-1 if refusal.message.endswith(" in second") else 0]
     try:
-        same = read_text(path) == text
-    except OSError:
-        same = False
-    if same:
-        return described(name, text, refusal.message, program)
-    return said + ["  That was said of a text that this command made; --show writes it."]
+        whole = expand.Text(path, name)
+    except (OSError, SourceFault):
+        return said, refusal.status
+    if whole.text == text:
+        return whole.refused(refusal.message) or described(name, text, refusal.message, program), refusal.status
+    if refusal.over_limits:
+        return said + ["  That was said of a text that this command made; --show writes it."], refusal.status
+    return said + ["  That was said of a text that this command made: a fault of the workbench. --show writes the text."], NO_PROGRAM

@@ -1,10 +1,13 @@
 """What the program's faults mean, and what a person may have wanted to write there."""
 import re
+from typing import Callable, List, Sequence, Tuple
+
+from spots import Spot
 
 FORMULAS = ("slen", "scount", "sdur", "pt", "ext", "<", "[", "[[", "<>", "[]", "^")  # what begins or joins formulas alone
 
 # Hints at a syntax fault: each is asked in turn of the text after it (`rest`), the token there (`word`) and the text before it (`ahead`).
-SYNTAX = (
+SYNTAX: Sequence[Tuple[Callable[[str, str, str], object], str]] = (
     (lambda rest, word, ahead: re.match(r'const\s+\w+\s*=|use\s+"', rest), "const and use are for ./ask expand, which writes a file of the language."),
     (lambda rest, word, ahead: rest.startswith("->"), 'Write => for "implies".'),
     (lambda rest, word, ahead: word in "+-" and not re.search(r"(^|\W)(infer|as)$|[(\]>})]$", ahead),
@@ -68,7 +71,7 @@ MESSAGES = (
 )
 
 
-def of_fault(kind, spot):
+def of_fault(kind: str, spot: Spot) -> List[str]:
     """The lines that say what a fault of a formula file means."""
     word = spot.token()
     if kind == "byte":
@@ -82,7 +85,7 @@ def of_fault(kind, spot):
     return [line.format(word=word) for line in OTHERS.get(kind, [])]
 
 
-def of_byte(spot):
+def of_byte(spot: Spot) -> List[str]:
     first, lines = spot.rest[:1], ["No token of the language begins with this character."]
     if spot.begins_with_mark:
         return lines + ["  The file begins with a byte order mark (the bytes EF BB BF). Save it without one."]
@@ -95,7 +98,7 @@ def of_byte(spot):
     return lines + [f"  {hint}" for characters, hint in BYTES if first in characters]
 
 
-def of_syntax(spot, word):
+def of_syntax(spot: Spot, word: str) -> List[str]:
     if spot.at_end:
         return ["The text ends before the file is whole.",
                 "  A file ends with a goal, as in: infer [[p]]; - is its ; missing, or a bracket not closed?"]
@@ -109,7 +112,7 @@ def of_syntax(spot, word):
     return lines
 
 
-def of_kind(spot, word):
+def of_kind(spot: Spot, word: str) -> List[str]:
     """A name of another kind: what it was made by says how it is written."""
     made = re.findall(r"\b(define|prop)\s+%s\b" % re.escape(word), re.sub(r"//[^\n]*", "", spot.text[:spot.place]))
     lines = [f"The name {word} stands for another kind of thing than its place asks for."]
@@ -120,12 +123,12 @@ def of_kind(spot, word):
     return lines + [f"  A variable is true or false at an instant, and a formula is judged on an interval: write <{word}>, [[{word}]] or <><{word}>."]
 
 
-def of_budget(what, limit, step):
+def of_budget(what: str, limit: int, step: int) -> List[str]:
     most = 32000 if what == "states" else 1000000
     return [f"Step {step} of the formula, whose part of the text begins here, needs more than {limit} {what}.",
             f'  docs/LANGUAGE.md, "The budget", says what helps; --{what} N sets the limit (up to {most}).']
 
 
-def of_message(message):
+def of_message(message: str) -> List[str]:
     """What a line means that names no place in a formula file."""
     return [f"{hint}" for pattern, hint in MESSAGES if re.match(pattern, message)][:1]

@@ -7,7 +7,7 @@ short (a plain form that says the same), reach (states, and how far the numbers 
 import os
 import re
 from dataclasses import dataclass
-from typing import Dict, List, Tuple
+from typing import Dict, List, Optional, Tuple
 
 from language import read_text
 from sources import ROOT, Source
@@ -26,29 +26,30 @@ class Pattern:
     numbers: Dict[str, int]  # the parameters that are numbers, as the file's goal has them
 
     @property
-    def propositions(self):
+    def propositions(self) -> List[str]:
         """The other parameters, in the order of the variables of its behaviours."""
         found = [name for name in self.variables if name in self.parameters]
         return found + [name for name in self.parameters if name not in self.numbers and name not in found]
 
     @property
-    def least(self):
+    def least(self) -> Dict[str, int]:
         """The least value of each number."""
         return {name: int(value) for name, value in re.findall(r"(\w+) from (\d+)", self.fields.get("numbers", ""))}
 
-    def words(self, field):
+    def words(self, field: str) -> List[List[str]]:
         """The behaviours of a field."""
         return [word.split() for word in self.fields[field].split(", where")[0].split(";")]
 
-    def text(self, numbers, goal=None):
+    def text(self, numbers: Dict[str, int], goal: Optional[str] = None) -> str:
         """A source of this pattern with these numbers; the goal may be another form of the file's language."""
         values = {**self.numbers, **numbers}
         arguments = ", ".join(str(values.get(name, name)) for name in self.parameters)
         return f'use "{self.path}";\nvar {", ".join(self.variables)};\ninfer {goal or f"{self.name}({arguments})"};\n'
 
 
-def fields_of(text):
-    found, field = {}, None
+def fields_of(text: str) -> Dict[str, str]:
+    found: Dict[str, str] = {}
+    field = None
     for line in text.splitlines():
         match = re.match(r"// (\w+): (.*)$", line)
         if match:
@@ -61,7 +62,7 @@ def fields_of(text):
     return found
 
 
-def read_pattern(path):
+def read_pattern(path: str) -> Pattern:
     name, text = os.path.basename(path)[:-3], read_text(path)
     source = Source(path, path, text)
     definition = source.definitions[-1]
@@ -71,13 +72,13 @@ def read_pattern(path):
     return Pattern(name, path, fields_of(text), tuple(source.variables), definition.parameters, numbers)
 
 
-def pattern(name):
+def pattern(name: str) -> Optional[Pattern]:
     """The pattern of this name, or None."""
     path = os.path.join(FOLDER, name + ".dc")
     return read_pattern(path) if re.fullmatch(r"\w+", name) and os.path.isfile(path) else None
 
 
-def patterns():
+def patterns() -> List[Pattern]:
     """All patterns, by their groups."""
     found = [read_pattern(os.path.join(FOLDER, name)) for name in sorted(os.listdir(FOLDER)) if name.endswith(".dc")]
     return sorted(found, key=lambda it: (GROUPS.index(it.fields["group"]), it.name))

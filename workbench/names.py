@@ -3,25 +3,26 @@
 from dataclasses import replace
 from functools import lru_cache
 from itertools import chain, count
-from typing import Optional
+from typing import Callable, Dict, FrozenSet, List, Optional, Sequence, Tuple
 
-from language import Fault, Tree, parse
+from language import Fault, File, Tree, parse
 
 
 @lru_cache(maxsize=None)
-def free_names(tree):
+def free_names(tree: Tree) -> FrozenSet[str]:
     """The names of a tree that it does not quantify."""
-    found = frozenset().union(*map(free_names, tree.parts))
+    none: FrozenSet[str] = frozenset()
+    found = none.union(*map(free_names, tree.parts))
     return found | {tree.value} if tree.kind == "name" else found - {tree.value} if tree.kind in ("ex", "all") else found
 
 
-def check_names(text):
+def check_names(text: str) -> File:
     """The file of a text, in which each name is declared before it is used, is new in its scope, and is used as what it is."""
-    def fresh(names, most, others, place=0):
+    def fresh(names: Sequence[str], most: int, others: Sequence[str], place: int = 0) -> None:
         if len({*names}) < len(names) or len(names) > most or {*names} & {*others} or any(len(it) > 24 for it in names):
             raise Fault(place, "a name that is taken, stands twice or is too long, or too many names")
 
-    def look(tree, known):
+    def look(tree: Tree, known: Dict[str, Tuple[str, int]]) -> None:
         if tree.kind in ("name", "call") and known.get(tree.value) != (tree.kind, len(tree.parts)):
             raise Fault(tree.start, f"{tree.value} used for what it is not")
         if tree.kind in ("ex", "all"):
@@ -30,8 +31,9 @@ def check_names(text):
         for part in tree.parts:
             look(part, known)
 
-    file, macros = parse(text), []
-    known = dict.fromkeys(file.variables, ("name", 0))
+    file = parse(text)
+    macros: List[str] = []
+    known: Dict[str, Tuple[str, int]] = dict.fromkeys(file.variables, ("name", 0))
     fresh(file.variables, 16, [])
     for macro in file.listed:
         macros.append(macro.name)
@@ -43,7 +45,7 @@ def check_names(text):
     return file
 
 
-def expand(file, goal: Optional[Tree] = None, bound=None):
+def expand(file: File, goal: Optional[Tree] = None, bound: Optional[Callable[[int], str]] = None) -> Tree:
     """A file's goal (or another formula over its macros) with each macro's body in the place of its call.
 
     Quantified names are made different from the variables and from each other, so no argument is captured; or `bound` names
@@ -51,12 +53,12 @@ def expand(file, goal: Optional[Tree] = None, bound=None):
     """
     taken = {*file.variables, *file.macros}
 
-    def fresh(name):
+    def fresh(name: str) -> str:
         names = chain([name], (f"{name[:18]}_{number}" for number in count(2)))
         taken.add(new := next(new for new in names if new not in taken))
         return new
 
-    def expanded(tree, scope, depth):
+    def expanded(tree: Tree, scope: Dict[str, Tree], depth: int) -> Tree:
         value = tree.value
         if tree.kind in ("name", "call"):
             if value in scope:

@@ -5,8 +5,9 @@
     workbench/pages.py bash >dcvalid.bash
 """
 import sys
+from typing import Iterable, List, Set
 
-from commands import ASK, PROGRAM, options_of
+from commands import ASK, PROGRAM, Command, Option, options_of
 
 STATUSES = (
     ("0", "The formula holds of every behaviour; the automaton is shown to be minimal; the first formula implies the second; nothing gets stuck; there is a controller; "
@@ -51,8 +52,9 @@ complete -o filenames -F _dcvalid dcvalid ask explain
 """
 
 
-def completion():
-    lines, values = [], set()
+def completion() -> str:
+    lines: List[str] = []
+    values: Set[str] = set()
     more = {"explain": options_of(ASK[0]), "dcvalid": ()}
     for tool, commands in (("dcvalid", PROGRAM), ("explain", PROGRAM), ("ask", ASK)):
         for command in commands:
@@ -64,13 +66,13 @@ def completion():
     return COMPLETION.format(options="\n".join(lines), values=" | ".join(sorted(values)), **names)
 
 
-def roff(text):
+def roff(text: str) -> str:
     """A text as troff reads it: hyphens and backslashes as they are, and no full stop that begins a line."""
     text = text.replace("\\", "\\e").replace("-", "\\-")
     return "\\&" + text if text.startswith((".", "'")) else text
 
 
-def described(command, before, options):
+def described(command: Command, before: str, options: Iterable[Option]) -> List[str]:
     """A command with its options, as a part of the man page."""
     words = " ".join([before, command.operands]) if command.operands else before
     lines = [".TP", f".B {roff(words)}", roff(command.summary[0].upper() + command.summary[1:] + ".")]
@@ -80,7 +82,7 @@ def described(command, before, options):
     return lines
 
 
-def man_page():
+def man_page() -> str:
     lines = ['.TH DCVALID 1 "" "dcvalid" "User commands"', ".SH NAME", "dcvalid \\- decides formulas of Quantified Discrete\\-time Duration Calculus",
              ".SH SYNOPSIS", ".B dcvalid", ".I COMMAND FILE", "[options]", ".SH DESCRIPTION",
              roff("Decides whether a requirement about stretches of time always holds, and shows a shortest behaviour that breaks it. The report is on "

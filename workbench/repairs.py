@@ -5,11 +5,16 @@ that token after it has no fault there. A change is told only where the program 
 """
 import difflib
 import re
+from typing import Callable, Dict, Iterable, Iterator, List, Sequence, Tuple, Union
 
-from language import RELATIONS, RESERVED, TOKEN, tokens_before
+from language import RELATIONS, RESERVED, TOKEN, Token, tokens_before
+from program import Fault, Program
+
+Change = Tuple[str, str, str]  # a phrase or its pattern, the token, and the text after the change
 
 NAME, NUMBER = "a name", "a number"
 MARKS = "; , . ( ) [ ] [[ ]] < > {{ }} ! - + && || => <=> ^ * <> [] = <= >=".split()
+ROOM = 16  # bytes that a question adds to the text before a place
 HERE = "\0"  # where the tokens of phrases of one shape go
 FILLERS = (NAME, NUMBER, "true", "false", "pt", "ext", "*")  # what fits without saying anything
 OPERATORS = "^ && || => <=> *".split()
@@ -18,7 +23,7 @@ FORMULAS = "< [ [[ {{ <> [] ! ( slen scount sdur pt ext true false ex all".split
 PROPOSITIONS = "! - + ( true false".split()
 
 # What other notations write, and what is written here for it.
-FOREIGN = {
+FOREIGN: Dict[str, List[str]] = {
     "and": ["&&"], "or": ["||"], "not": ["!"], "implies": ["=>"], "iff": ["<=>"], "xor": [], "AND": ["&&"], "OR": ["||"], "NOT": ["!"],
     "&": ["&&"], "|": ["||"], "~": ["!"], "->": ["=>"], "<->": ["<=>"], "==": ["<=>", "="], "==>": ["=>"], "-->": ["=>"], "&&&": ["&&"],
     "|||": ["||"], "=<": ["<="], "=>": [">="], "forall": ["all"], "exists": ["ex"], "A": ["all"], "E": ["ex"], ":": [".", "as"], ":=": ["as"],
@@ -27,7 +32,7 @@ FOREIGN = {
     "True": ["true"], "False": ["false"], "TRUE": ["true"], "FALSE": ["false"], "length": ["slen"], "len": ["slen"], "count": ["scount"],
 }
 # Pieces around a fault that other notations write, and what is written here for them.
-REWRITES = (
+REWRITES: Sequence[Tuple[str, Union[str, Callable[["re.Match[str]"], str]]]] = (
     (r"/\*.*?\*/", " "),
     (r"(slen|(?:scount|sdur)\s*(?:[A-Za-z]\w*|\([^()]*\)))\s*(?:!=|<>|/=)\s*([0-9]+)", r"!(\1 = \2)"),
     (r"([A-Za-z]\w*)\s*(?:!=|/=)\s*([A-Za-z]\w*)", r"!(\1 <=> \2)"),
@@ -42,7 +47,7 @@ REWRITES = (
 )
 
 
-def may_stand(program, text, place):
+def may_stand(program: Program, text: str, place: int) -> List[str]:
     """The tokens that may stand at a place that no token before it is a fault of."""
     front = text[:place] + "\n"
     found = []
@@ -54,15 +59,15 @@ def may_stand(program, text, place):
     return found
 
 
-def names_that_fit(text, place, tokens):
+def names_that_fit(text: str, place: int, tokens: Sequence[str]) -> List[str]:
     """The names in sight that a proposition or a formula at this place may begin with."""
-    statements = [[]]
+    statements: List[List[str]] = [[]]
     for token in tokens_before(text, place)[0]:
         if token.text == ";":
             statements.append([])
         else:
             statements[-1].append(token.text)
-    named = {"var": [], "prop": [], "define": []}
+    named: Dict[str, List[str]] = {"var": [], "prop": [], "define": []}
     for head, *words in filter(None, statements[:-1]):
         if head in named:
             named[head] += [word for word in words if word != ","] if head == "var" else words[:1]
@@ -75,7 +80,7 @@ def names_that_fit(text, place, tokens):
     return named["define"] if "<>" in tokens else []
 
 
-def spoken(text, place, tokens):
+def spoken(text: str, place: int, tokens: Sequence[str]) -> str:
     """What may stand at a place, in groups, as one phrase."""
     left = [token for token in tokens if token not in (NAME, NUMBER)]
     before = [token.text for token in tokens_before(text, place)[0]][-1:]
@@ -83,7 +88,7 @@ def spoken(text, place, tokens):
         left.remove("(")  # the arguments of what has no parameters
     names, parts = names_that_fit(text, place, tokens), []
 
-    def group(title, members, also=()):
+    def group(title: str, members: Sequence[str], also: Sequence[str] = ()) -> None:
         found = [token for token in members if token in left]
         if found or also:
             parts.append(" ".join([title, *also, *found]))
@@ -107,11 +112,11 @@ def spoken(text, place, tokens):
     return ", ".join(parts) or "the end of the text"
 
 
-def _few(names):
+def _few(names: List[str]) -> List[str]:
     return names if len(names) <= 6 else names[:5] + [".."]
 
 
-def changes(program, text, fault, tokens=()):
+def changes(program: Program, text: str, fault: Fault, tokens: Sequence[str] = ()) -> List[str]:
     """Phrases for the one change that leaves no fault, such as `write && for and`; the likeliest shape alone where one is."""
     for phrase, changed in _rewritten(text, fault.place):
         if program.fault(changed) is None:
@@ -119,14 +124,14 @@ def changes(program, text, fault, tokens=()):
     if fault.kind in ("syntax", "byte"):
         likely, others = _token_changes(text, fault.place, tokens)
     else:
-        likely, others = _name_changes(program, text, fault), []
+        likely, others = _name_changes(text, fault), []
     for phrase, _, changed in likely:
         if program.fault(changed) is None:
             return [phrase]
     return _joined((phrase, token) for phrase, token, changed in others if program.fault(changed) is None)
 
 
-def _rewritten(text, place):
+def _rewritten(text: str, place: int) -> Iterator[Tuple[str, str]]:
     """The text with a piece of another notation around the place put right, there alone or everywhere."""
     start = text.rfind("\n", 0, place) + 1
     end = (text + "\n").index("\n", place)
@@ -140,11 +145,12 @@ def _rewritten(text, place):
                     yield phrase + " everywhere", text.replace(piece, written)
 
 
-def _token_changes(text, place, tokens):
+def _token_changes(text: str, place: int, tokens: Sequence[str]) -> Tuple[List[Change], List[Change]]:
     """Changes at a token: the likely ones as (phrase, token, text), and all others as (pattern of a phrase, token, text)."""
     match = TOKEN.match(text, place)
     token = match.group() if match and match.group("blank") is None else text[place:place + 1]
-    piece = re.match(r"[-=<>!&|~^+*/%:]+|[A-Za-z]\w*|", text[place:]).group() or token
+    found = re.match(r"[-=<>!&|~^+*/%:]+|[A-Za-z]\w*", text[place:])
+    piece = found.group() if found else token
     fit = names_that_fit(text, place, tokens)[:4]
     usual = fit + [mark for mark in tokens if mark not in FILLERS] + ([NUMBER] if NUMBER in tokens else [])
     likely = [(f"write {new} for {old}", new, text[:place] + new + text[place + len(old):])
@@ -170,17 +176,17 @@ def _token_changes(text, place, tokens):
     return likely, others
 
 
-def _put(text, behind, new):
+def _put(text: str, behind: Sequence[Token], new: str) -> str:
     end = behind[-1].end if behind else 0
     return text[:end] + new + text[end:]
 
 
-def _name_changes(program, text, fault):
+def _name_changes(text: str, fault: Fault) -> List[Change]:
     """Changes of a name that is unknown, or that stands for another kind of thing than its place asks for."""
     match = re.match(r"[A-Za-z]\w*(\s*\([^()]*\))?", text[fault.place:])
     if match is None:
         return []
-    name = re.match(r"\w+", match.group()).group()
+    name = re.split(r"\W", match.group(), maxsplit=1)[0]
     end = fault.place + match.end()
     found = []
     if fault.kind == "unknown":
@@ -199,9 +205,9 @@ def _name_changes(program, text, fault):
     return found
 
 
-def _joined(phrases):
+def _joined(phrases: Iterable[Tuple[str, str]]) -> List[str]:
     """Phrases of one shape told together: `put ^, && or || before [`."""
-    shapes = {}
+    shapes: Dict[str, List[str]] = {}
     for phrase, token in phrases:
         shapes.setdefault(phrase, []).append(token)
     told = []

@@ -1,11 +1,17 @@
 """`review`: what a colleague would ask of a requirement, each question with its answer and a behaviour that shows it."""
+import argparse
 import itertools
 from dataclasses import replace
+from typing import Callable, Dict, FrozenSet, Iterable, Iterator, List, NamedTuple, Optional, Sequence, Set, Tuple, Union
 
 import vacuity
-from language import Tree, read_text, to_text
+from answers import Word
+from expand import Text
+from language import Tree, to_text
 from names import expand
-from questions import Requirement, differing
+from program import Program, Verdict
+from questions import THREADS, Pair, Requirement, differing
+from shapes import MOST
 from waves import in_line, waves
 
 MOST_WISHES = 14  # with more of them the limits of an example are lower
@@ -14,18 +20,19 @@ MOST_WISHES = 14  # with more of them the limits of an example are lower
 # ---- a telling example
 
 
-def names_in(tree):
+def names_in(tree: Tree) -> Set[str]:
     return {part.value for part in tree.walk() if part.kind == "name"}
 
 
-def happenings(goal):
+def happenings(goal: Tree) -> Dict[str, str]:
     """The left sides of => and the propositions of <P>, {{P}} and P => Q that have no quantified name: what may happen, or not."""
-    lefts, events = {}, {}
+    lefts: Dict[str, str] = {}
+    events: Dict[str, str] = {}
 
-    def walk(tree, bound):
+    def walk(tree: Tree, bound: FrozenSet[str]) -> None:
         if tree.kind in ("ex", "all"):
             bound = bound | {tree.value}
-        first = tree.parts[0] if tree.parts else None
+        first = tree.parts[0] if tree.parts else tree
         if tree.kind == "implies" and not names_in(first) & bound:
             lefts[f"<>({to_text(first)})"] = to_text(first)
         if tree.kind in ("point", "unit", "p_implies") and not names_in(first) & bound:
@@ -37,9 +44,10 @@ def happenings(goal):
     return {**lefts, **events}
 
 
-def wishes_of(requirement):
+def wishes_of(requirement: Requirement) -> Dict[str, str]:
     """What may happen, as a formula and in words: the wishes that hold in fewest behaviours come first."""
-    names, wishes = requirement.variables, {}
+    names = requirement.variables
+    wishes: Dict[str, str] = {}
     if 2 <= len(names) <= 4:
         for name in names:
             others = "".join(f" && !{other}" for other in names if other != name)
@@ -51,14 +59,16 @@ def wishes_of(requirement):
     return wishes
 
 
-def telling(requirement):
+def telling(requirement: Requirement) -> Tuple[Optional[Word], Dict[str, List[str]]]:
     """A shortest behaviour in which as much happens as can together; and what else was wished, by why it does not happen in it."""
     wishes = wishes_of(requirement)
-    whole = requirement.check(requirement.and_also(wishes), wide=len(wishes) <= MOST_WISHES)
+    whole = requirement.check(requirement.and_also(list(wishes)), wide=len(wishes) <= MOST_WISHES)
     if whole and whole.satisfiable:
         return whole.example, {}
     alone = requirement.side_by_side(lambda wish: requirement.check(requirement.and_also([wish])), [(wish,) for wish in wishes])
-    got, best, without = [], None, {"never": [], "apart": [], "over": []}
+    got: List[str] = []
+    best: Optional[Word] = None
+    without: Dict[str, List[str]] = {"never": [], "apart": [], "over": []}
     for (wish, said), answer in zip(wishes.items(), alone):
         possible = answer and answer.satisfiable
         if possible and got:
@@ -76,7 +86,7 @@ def telling(requirement):
 MISSING = {"never": "Where it holds it never happens that", "apart": "Not together with the rest", "over": "Too large to ask for besides"}
 
 
-def example_section(requirement):
+def example_section(requirement: Requirement) -> List[str]:
     best, without = telling(requirement)
     if best is None:
         return []
@@ -87,39 +97,54 @@ def example_section(requirement):
 # ---- boundaries
 
 
-def neighbours(requirement):
-    """Each number one lower and one higher, and each [P] as [[P]] and back: the part, what stands there then, and the whole text."""
+class Neighbour(NamedTuple):
+    """A part and what stands in its place: the places of the part, how it is called, what stands there, and the whole text with it."""
+
+    place: Tuple[int, int]
+    called: str
+    new: str
+    text: str
+
+
+def neighbours(requirement: Requirement) -> Iterator[Neighbour]:
+    """Each number one lower and one higher, and each [P] as [[P]] and back. Of a source also the numbers that the macros of other files get."""
     for occurrence in requirement.occurrences():
         tree = occurrence.tree
         start, end = occurrence.place
+        called = f"{requirement.line(tree)}: {requirement.part(tree)}"
+        if not requirement.is_own(tree):
+            continue
         if tree.kind in ("slen", "scount", "sdur"):
             digits = len(requirement.text[start:end]) - len(requirement.text[start:end].rstrip("0123456789"))
             for number in (tree.value[1] - 1, tree.value[1] + 1):
-                if 0 <= number <= 9999:
-                    yield tree, str(number), requirement.put(end - digits, end, str(number))
+                if 0 <= number <= MOST:
+                    yield Neighbour((start, end), called, str(number), requirement.put(end - digits, end, str(number)))
         elif tree.kind == "run":
-            yield tree, "[[..]]", requirement.put(start, end, f"[{requirement.text[start:end]}]")
+            yield Neighbour((start, end), called, "[[..]]", requirement.put(start, end, f"[{requirement.text[start:end]}]"))
         elif tree.kind == "every":
-            yield tree, "[..]", requirement.put(start, end, requirement.text[start + 1:end - 1])
+            yield Neighbour((start, end), called, "[..]", requirement.put(start, end, requirement.text[start + 1:end - 1]))
+    yield from (Neighbour(*it) for it in requirement.whole.other_numbers())
 
 
-def boundary_section(requirement):
+def boundary_section(requirement: Requirement) -> List[str]:
     cases = list(neighbours(requirement))
-    pairs = [pair for _, _, text in cases for pair in ((requirement.text, text), (text, requirement.text))]
+    pairs = [pair for it in cases for pair in ((requirement.text, it.text), (it.text, requirement.text))]
     answers = iter(requirement.side_by_side(requirement.difference, pairs))
-    found = [(tree, new, next(answers), next(answers)) for tree, new, _ in cases]
-    lines = []
-    for tree, those in itertools.groupby(found, lambda case: case[0]):
-        told = list(boundaries_of(those, requirement.verdict.valid))
+    found = [(it, next(answers), next(answers)) for it in cases]
+    lines: List[str] = []
+    for _, those in itertools.groupby(found, lambda case: case[0].place):
+        several = list(those)
+        told = list(boundaries_of([(it.new, here, there) for it, here, there in several], requirement.verdict.valid))
         if told:
-            lines += [f"line {requirement.line(tree)}: {requirement.part(tree)}", *told]
+            lines += [several[0][0].called, *told]
     return lines
 
 
-def boundaries_of(cases, valid):
+def boundaries_of(cases: Iterable[Tuple[str, Union[Word, str, None], Union[Word, str, None]]], valid: bool) -> Iterator[str]:
     """What is told of the neighbours of one part. That a theorem's neighbour is one too is worth saying where all of them are."""
-    same, others = [], []
-    for _, new, here, there in cases:
+    same: List[str] = []
+    others: List[str] = []
+    for new, here, there in cases:
         if here == there == "same":
             same.append(new)
         elif here is None or there is None:
@@ -135,20 +160,20 @@ def boundaries_of(cases, valid):
 # ---- near misses
 
 
-def twin_of(goal, variable, twin):
+def twin_of(goal: Tree, variable: str, twin: str) -> Tree:
     """The goal without macros, another variable in the place of one."""
     if goal.kind == "name" and goal.value == variable:
         return Tree("name", (), twin)
     return replace(goal, parts=tuple(twin_of(part, variable, twin) for part in goal.parts))
 
 
-def free_name(goal, variables):
+def free_name(goal: Tree, variables: Sequence[str]) -> str:
     """A name for a copy of a variable, which is none of the goal's."""
     taken = names_in(goal) | set(variables) | {part.value for part in goal.walk() if part.kind in ("ex", "all")}
     return next(name for name in (f"twin{number or ''}" for number in range(len(taken) + 1)) if name not in taken)
 
 
-def near_miss(requirement, goal, variable, high):
+def near_miss(requirement: Requirement, goal: Tree, variable: str, high: bool) -> Union[Pair, str, None]:
     """A shortest good behaviour that is bad with the other value of the variable at one instant, at which it has this value, and
     that bad one; None where there is none, and `over` where that is not known."""
     twin = free_name(goal, requirement.variables)
@@ -157,20 +182,20 @@ def near_miss(requirement, goal, variable, high):
     names, place = ", ".join((*requirement.variables, twin)), requirement.variables.index(variable)
     verdict = requirement.check(f"var {names};\ninfer {once} && ({to_text(goal)}) && !({to_text(twin_of(goal, variable, twin))});\n", wide=True)
     if verdict is None:
-        return confirmed(requirement, differing(requirement.automaton_read(), place, high))
+        return confirmed(requirement, differing(requirement.automaton_read, place, high))
     word = verdict.example
-    return word and ([letter[:-1] for letter in word], [letter[:place] + letter[-1] + letter[place + 1:-1] for letter in word])
+    return None if word is None else ([letter[:-1] for letter in word], [letter[:place] + letter[-1] + letter[place + 1:-1] for letter in word])
 
 
-def confirmed(requirement, found):
+def confirmed(requirement: Requirement, found: Union[Pair, str, None]) -> Union[Pair, str, None]:
     """A pair that was found in the automaton's text, once the program's observer has said of both what they are."""
-    if found in (None, "over"):
+    if found is None or isinstance(found, str):
         return found
-    answers = [requirement.program.replay(requirement.observer(), word)[-1] for word in found]
+    answers = [requirement.program.replay(requirement.observer, word)[-1] for word in found]
     return found if answers == [True, False] else "over"
 
 
-def near_section(requirement):
+def near_section(requirement: Requirement) -> List[str]:
     goal = expand(requirement.file)
     if len(requirement.variables) > 15:
         return ["(Not asked: with 16 variables none can be copied.)"]
@@ -179,7 +204,7 @@ def near_section(requirement):
     lines = []
     for (variable, high), pair in zip(cases, answers):
         what = f"{variable} has to be {'true' if high else 'false'}"
-        if pair == "over":
+        if isinstance(pair, str):
             lines.append(f"{what}: over the limits of this question")
         elif pair:
             at = next(instant for instant, letters in enumerate(zip(*pair)) if letters[0] != letters[1])
@@ -190,13 +215,13 @@ def near_section(requirement):
 # ---- the review
 
 
-def verdict_section(verdict):
+def verdict_section(verdict: Verdict) -> List[str]:
     if not verdict.satisfiable:
         return ["No behaviour satisfies it."]
     return ["Every behaviour satisfies it: it asks for nothing, or it is a theorem."] if verdict.valid else []
 
 
-SECTIONS = (
+SECTIONS: Sequence[Tuple[str, Callable[[Requirement], List[str]]]] = (
     ("Does it say anything at all?", lambda requirement: verdict_section(requirement.verdict)),
     ("What does it look like when it holds? A shortest behaviour in which as much as can happens:", example_section),
     ("Is each number and bracket the one that is meant? Shortest behaviours that tell it from its neighbour:", boundary_section),
@@ -205,16 +230,18 @@ SECTIONS = (
 )
 
 
-def add_arguments(parser):
+def add_arguments(parser: argparse.ArgumentParser) -> None:
     parser.add_argument("file", metavar="FILE")
 
 
-def run(options, program):
-    requirement = Requirement(program, read_text(options.file))
-    requirement.verdict = program.check(requirement.text)
-    names = " ".join(requirement.variables)
-    print(f"{options.shown}: " + (f"an instant is written as the digits of {names}" if names else "no variables"))
-    sections = list(requirement.outer.map(lambda section: section[1](requirement), SECTIONS))
+def run(options: argparse.Namespace, program: Program) -> int:
+    whole = Text(options.file, options.shown)
+    # The questions of the sections are asked side by side; the sections wait for theirs.
+    with program.side_by_side(THREADS) as questions, program.side_by_side(THREADS) as outer:
+        requirement = Requirement(program, whole, questions)
+        names = " ".join(requirement.variables)
+        print(f"{options.shown}: " + (f"an instant is written as the digits of {names}" if names else "no variables"))
+        sections = list(outer.map(lambda section: section[1](requirement), SECTIONS))
     for (title, _), lines in zip(SECTIONS, sections):
         if lines:
             print(f"\n{title}")

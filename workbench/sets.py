@@ -1,131 +1,61 @@
 """`set`: several requirements together: each alone, pairs, groups that share names, a smallest part that is to blame, what follows from the others."""
+import argparse
 import os
 import sys
 import time
+from collections import defaultdict
 from concurrent.futures import ThreadPoolExecutor
 from dataclasses import dataclass, field
-from typing import List, Tuple
+from typing import Callable, Dict, FrozenSet, List, Optional, Sequence, Set, Tuple, TypeVar
 
 import expand
-from joined import MOST_NAMES, joined, named, names_of, read_requirement
-from program import Refusal
-from sets_report import print_report, write_junit
+from asked import Finding, Members, Questions, Unanswered
+from joined import MOST_NAMES, Requirement, named, read_requirement
+from kept import Kept, Planned
+from language import MOST_TEXT, read_text
+from nearby import near_names, read_signals, strange_names
+from program import Program
+from progress import Progress
+from sets_report import print_report, sentence, write_junit
 from sources import load
 
-
-@dataclass(frozen=True)
-class Finding:
-    """What is not well with some requirements together: `kind`, and the behaviour that shows it, or None."""
-
-    kind: str  # fault, impossible, always true, no first instant, stuck, unrealisable
-    members: Tuple = ()
-    word: Tuple = ()
-    bound: int = 0
+Got = TypeVar("Got")
+Pair = Tuple[Requirement, Requirement]
+MOST_STATES = 100_000  # the product of the states of a group that is asked about
+SOUND = ("stuck", "unrealisable")  # what one may be alone and still be asked about with others
 
 
 @dataclass
 class Answers:
     """All that is told of a set."""
 
-    requirements: List
+    requirements: List[Requirement]
     inputs: Tuple[str, ...]
-    alone: dict = field(default_factory=dict)  # of each requirement its finding or None
+    alone: Dict[Requirement, Optional[Finding]] = field(default_factory=dict)  # of each requirement its finding or None
     findings: List[Finding] = field(default_factory=list)  # of several together
-    implied: List[Tuple] = field(default_factory=list)  # (left requirements, right one)
-    unasked: List[Tuple] = field(default_factory=list)  # (requirements, what, why)
-    pairs: List[Tuple] = field(default_factory=list)
-    groups: List[List] = field(default_factory=list)
-    late: set = field(default_factory=set)  # those that are judged at the end alone
+    implied: List[Tuple[Members, Requirement]] = field(default_factory=list)  # (left requirements, right one)
+    unasked: List[Tuple[Members, str, str]] = field(default_factory=list)  # (requirements, what, why)
+    pairs: List[Pair] = field(default_factory=list)
+    groups: List[List[Requirement]] = field(default_factory=list)
+    late: Set[Requirement] = field(default_factory=set)  # those that are judged at the end alone
+    near: List[str] = field(default_factory=list)  # names that are near each other
+    strange: List[str] = field(default_factory=list)  # names that are no signals
 
     @property
-    def is_well(self):
-        return not self.findings and not any(self.alone.values())
-
-
-class Unanswered(Exception):
-    """A question that the program refuses: over the budget, or another limit."""
-
-
-class Questions:
-    """What is asked of some requirements together."""
-
-    def __init__(self, program, inputs):
-        self.program, self.inputs = program, inputs
-        self.late = set()  # requirements that no behaviour of one instant satisfies: they are judged at the end
-        self.alone = {"stuck": set(), "unrealisable": set()}
-        self.unasked = []
-
-    def asked(self, question):
-        """The answer; where the program refuses the question for a limit, Unanswered."""
-        try:
-            return question()
-        except Refusal as refusal:
-            if refusal.status not in (3, 4):
-                raise
-            why = "more than 8 outputs" if refusal.message == "fault outputs" else f"over a limit of the language ({refusal.message})"
-            raise Unanswered("over the budget" if refusal.over_budget else why) from None
-
-    def of(self, requirements):
-        """The first thing that is not well with all of these together, or None. Of several it is not asked what one of them has alone."""
-        if len(names_of(requirements)) > MOST_NAMES:
-            raise Unanswered(f"more than {MOST_NAMES} names")
-        verdict = self.asked(lambda: self.program.check(joined(requirements)))
-        members = tuple(requirements)
-        if not verdict.satisfiable:
-            return Finding("impossible", members)
-        if verdict.valid:
-            return Finding("always true", members) if len(members) == 1 else None
-        if (self.late | self.alone["stuck"]) & set(members):
-            return None
-        finding = self.at_each_instant(members)
-        if len(members) == 1 and finding:
-            self.alone[finding.kind].add(members[0])
-        return finding
-
-    def at_each_instant(self, members):
-        """What is not well where they are kept to from the first instant on."""
-        word = self.asked(lambda: self.program.stuck(joined(members)))
-        if word:
-            return Finding("stuck", members, tuple(word))
-        if word is not None:  # no behaviour of one instant keeps to them
-            if len(members) > 1:
-                return Finding("no first instant", members)
-            self.late.update(members)
-            return None
-        if not self.inputs or self.alone["unrealisable"] & set(members):
-            return None
-        try:
-            return self.controller(members)
-        except Unanswered as unanswered:
-            self.unasked.append((members, "a controller", str(unanswered)))
-            return None
-
-    def controller(self, requirements):
-        """Whether no controller keeps to them."""
-        names = names_of(requirements, self.inputs)
-        inputs = [name for name in names if name in self.inputs]
-        text = joined(requirements, first=self.inputs)
-        answer = self.asked(lambda: self.program.ask("synth", text, options=("--inputs", str(len(inputs)))))
-        if answer.status == 0:
-            return None
-        return Finding("unrealisable", requirements, bound=int(answer.output.split("\n")[1].split()[1]))
-
-    def follows(self, left, right):
-        """Whether all of the left together imply the right one."""
-        names = names_of(list(left) + [right])
-        if len(names) > MOST_NAMES:
-            raise Unanswered(f"more than {MOST_NAMES} names")
-        return self.asked(lambda: self.program.implies(joined(left, names=names), joined([right], names=names))) is None
+    def is_well(self) -> bool:
+        return not self.findings and not self.strange and not any(self.alone.values())
 
 
 class Survey:
     """The whole examination of a set."""
 
-    def __init__(self, requirements, questions, pool, inputs):
-        self.questions, self.pool = questions, pool
+    def __init__(self, requirements: List[Requirement], questions: Questions, pool: ThreadPoolExecutor, inputs: Tuple[str, ...]) -> None:
+        self.questions, self.pool, self.progress = questions, pool, Progress()
         self.answers = Answers(requirements, inputs)
+        self.order = {it: place for place, it in enumerate(requirements)}
+        self.bad: Set[FrozenSet[Requirement]] = set()  # pairs that are not well together, or could not be asked about
 
-    def ask(self, requirements, what, question):
+    def ask(self, requirements: Sequence[Requirement], what: str, question: Callable[[], Got]) -> Optional[Got]:
         """The answer, or None where it can't be had, which is noted."""
         try:
             return question()
@@ -133,84 +63,151 @@ class Survey:
             self.answers.unasked.append((tuple(requirements), what, str(unanswered)))
             return None
 
-    def run(self):
+    def each(self, what: str, question: Callable[..., Got], items: Sequence[object]) -> List[Got]:
+        """The answers for all items, which are asked side by side."""
+        def counted(item: object) -> Got:
+            answer = question(item)
+            self.progress.step()
+            return answer
+
+        self.progress.begin(what, len(items))
+        return list(self.pool.map(counted, items))
+
+    def note(self, finding: Finding) -> None:
+        self.answers.findings.append(finding)
+        self.progress.found([sentence(finding, self.answers.inputs)])
+
+    def run(self) -> Answers:
         answers = self.answers
         good = [it for it in answers.requirements if it.fault is None]
         for it in answers.requirements:
             answers.alone[it] = Finding("fault", (it,)) if it.fault is not None else None
-        for it, finding in zip(good, self.pool.map(self.one, good)):
-            answers.alone[it] = finding
-        sound = [it for it in good if answers.alone[it] is None or answers.alone[it].kind in ("stuck", "unrealisable")]
-        answers.pairs = [(a, b) for place, a in enumerate(sound) for b in sound[place + 1:] if set(a.variables) & set(b.variables)]
-        for found in self.pool.map(self.pair, answers.pairs):
-            answers.findings += found
-        components = self.components(sound)
-        for groups in self.pool.map(self.grown, components):
-            answers.groups += groups
-        for found in self.pool.map(self.following, [group for group in answers.groups if len(group) > 2]):
-            answers.implied += found
+        answers.alone.update(zip(good, self.each("alone", self.one, good)))
+        sound = [it for it in good if (answers.alone[it] or Finding("stuck")).kind in SOUND]
+        answers.pairs = self.pairs(sound)
+        self.each("pairs", self.pair, answers.pairs)
+        self.group(sound)
+        large = [group for group in answers.groups if len(group) > 2]
+        self.each("what follows in groups", self.following, large)
         answers.late = self.questions.late
         answers.unasked += self.questions.unasked
-        order = answers.requirements.index
-        answers.findings.sort(key=lambda it: (len(it.members), [order(member) for member in it.members]))
-        answers.implied.sort(key=lambda it: (len(it[0]), [order(member) for member in it[0]], order(it[1])))
+        self.sort()
         return answers
 
-    def one(self, requirement):
-        return self.ask((requirement,), "alone", lambda: self.questions.of([requirement]))
+    def sort(self) -> None:
+        """The answers in the order of the requirements, whatever came first."""
+        def places(members: Sequence[Requirement]) -> Tuple[int, List[int]]:
+            return len(members), [self.order[it] for it in members]
 
-    def pair(self, pair):
-        """What is not well with both together; that one implies the other is noted."""
-        finding = self.ask(pair, "together", lambda: self.questions.of(list(pair)))
-        for left, right in (pair, pair[::-1]):
-            if (finding is None or finding.kind != "impossible") and self.ask(pair, "implication", lambda: self.questions.follows([left], right)):
-                self.answers.implied.append(((left,), right))
-        return [finding] if finding else []
+        answers = self.answers
+        answers.findings.sort(key=lambda it: places(it.members))
+        answers.implied.sort(key=lambda it: (places(it[0]), self.order[it[1]]))
+        answers.unasked.sort(key=lambda it: (places(it[0]), it[1]))
+        answers.groups.sort(key=lambda it: self.order[it[0]])
 
-    def components(self, requirements):
-        """The requirements in parts that share no names."""
-        found = []
+    def one(self, requirement: Requirement) -> Optional[Finding]:
+        finding = self.ask((requirement,), "alone", lambda: self.questions.of([requirement]))
+        if finding:
+            self.progress.found([sentence(finding, self.answers.inputs)])
+        return finding
+
+    # ---- pairs
+
+    def pairs(self, requirements: Sequence[Requirement]) -> List[Pair]:
+        """Those that share names."""
+        by_name: Dict[str, List[Requirement]] = defaultdict(list)
         for it in requirements:
-            near = [part for part in found if any(set(it.variables) & set(other.variables) for other in part)]
-            found = [part for part in found if part not in near] + [sum(near, []) + [it]]
-        return [sorted(part, key=requirements.index) for part in found]
+            for name in it.variables:
+                by_name[name].append(it)
+        found = {(one, other) for those in by_name.values() for place, one in enumerate(those) for other in those[place + 1:]}
+        return sorted(found, key=lambda pair: (self.order[pair[0]], self.order[pair[1]]))
 
-    def grown(self, part):
-        """Groups of a part, each grown by the requirement that shares most names with it, as far as all is well and can be asked."""
-        todo, groups = list(part), []
+    def pair(self, pair: Pair) -> None:
+        """What is not well with both together; that one implies the other is noted."""
+        before = len(self.answers.unasked)
+        finding = self.ask(pair, "together", lambda: self.questions.of(pair))
+        if finding:
+            self.note(finding)
+        if finding and finding.kind != "unrealisable" or any(members == pair for members, _, _ in self.answers.unasked[before:]):
+            self.bad.add(frozenset(pair))
+        for left, right in (pair, pair[::-1]):
+            if (finding is None or finding.kind != "impossible") and self.implies(pair, left, right):
+                self.answers.implied.append(((left,), right))
+
+    def implies(self, pair: Pair, left: Requirement, right: Requirement) -> Optional[bool]:
+        return self.ask(pair, "implication", lambda: self.questions.follows([left], right))
+
+    # ---- groups
+
+    def group(self, requirements: Sequence[Requirement]) -> None:
+        """Groups that are well, in rounds: those that are planned are asked about side by side, and who was left out joins the next."""
+        todo = list(requirements)
         while todo:
-            group, later = [todo.pop(0)], []
-            near = self.near(group, todo)
-            while near:
-                best = max(near, key=lambda it: len(set(it.variables) & set(names_of(group))))
-                todo.remove(best)
-                (group if self.joins(group, best) else later).append(best)
-                near = self.near(group, todo)
+            planned = self.planned(todo)
+            asked = self.each("groups", self.grown, planned)
+            self.answers.groups += [kept for kept, _ in asked]
+            left = {it for _, dropped in asked for it in dropped}
+            todo = [it for it in todo if it in left]
+
+    def planned(self, requirements: Sequence[Requirement]) -> List[List[Requirement]]:
+        """Each requirement in one group, which is joined by the one that shares most names with it, as far as its names, its states and
+        what is known of pairs allow."""
+        by_name: Dict[str, Dict[Requirement, None]] = defaultdict(dict)
+        for it in requirements:
+            for name in it.variables:
+                by_name[name][it] = None
+        groups, todo = [], dict.fromkeys(requirements)
+        while todo:
+            group = [next(iter(todo))]
+            shared: Dict[Requirement, int] = {}
+            names: Set[str] = set()
+            while group[-1] in todo:
+                del todo[group[-1]]
+                for name in set(group[-1].variables) - names:
+                    names.add(name)
+                    for it in by_name[name]:
+                        shared[it] = shared.get(it, 0) + 1
+                near = sorted((it for it in shared if it in todo), key=lambda it: (-shared[it], self.order[it]))
+                group += [it for it in near if self.fits(group, names, it)][:1]
+            others = [it for it in near if not any(frozenset((it, other)) in self.bad for other in group)]
+            if others:
+                why = f"{len(others)} more share names: more than {MOST_NAMES} names, or {MOST_STATES} states, together"
+                self.answers.unasked.append((tuple(sorted(group, key=self.order.__getitem__)), "with others", why))
             groups.append(group)
-            todo = later + todo
         return groups
 
-    @staticmethod
-    def near(group, others):
-        names = set(names_of(group))
-        return [it for it in others if names & set(it.variables)]
-
-    def joins(self, group, requirement):
-        """Whether a requirement may join a group: all is well with them together. What is not is noted."""
-        together = group + [requirement]
-        known = [set(it.members) for it in self.answers.findings] + [set(members) for members, what, _ in self.answers.unasked if what == "together"]
-        if any(members <= set(together) for members in known):
+    def fits(self, group: Sequence[Requirement], names: Set[str], it: Requirement) -> bool:
+        if len(names | set(it.variables)) > MOST_NAMES or any(frozenset((other, it)) in self.bad for other in group):
             return False
-        if len(together) == 2:
-            return True
-        failed = len(self.answers.unasked)
-        in_order = sorted(together, key=self.answers.requirements.index)
-        finding = self.ask(together, "together", lambda: self.questions.of(in_order))
-        if finding is not None:
-            self.answers.findings.append(self.smallest(finding))
-        return finding is None and len(self.answers.unasked) == failed
+        states = self.states(it)
+        for other in group:
+            states *= self.states(other)
+        return len(group) == 1 or states <= MOST_STATES
 
-    def smallest(self, finding):
+    def states(self, it: Requirement) -> int:
+        automaton = self.questions.automata.get(it)
+        return automaton.states if automaton else MOST_STATES
+
+    def grown(self, group: List[Requirement]) -> Tuple[List[Requirement], List[Requirement]]:
+        """The group as far as all is well with it and can be asked, and who had to leave it."""
+        kept, dropped = list(group), []
+        while len(kept) > 2:
+            in_order = sorted(kept, key=self.order.__getitem__)
+            before = len(self.answers.unasked)
+            finding = self.ask(in_order, "together", lambda: self.questions.of(in_order))  # pylint: disable=cell-var-from-loop
+            if finding is not None:
+                finding = self.smallest(finding)
+                self.note(finding)
+            elif not any(members == tuple(in_order) for members, what, _ in self.answers.unasked[before:] if what == "together"):
+                break
+            if finding is not None and finding.kind == "unrealisable":
+                break
+            last = next(it for it in reversed(kept) if finding is None or it in finding.members)
+            kept.remove(last)
+            dropped.append(last)
+        return sorted(kept, key=self.order.__getitem__), dropped
+
+    def smallest(self, finding: Finding) -> Finding:
         """The finding of a smallest part that still has one: one requirement after another is left out."""
         for it in finding.members:
             fewer = [other for other in finding.members if other is not it]
@@ -222,41 +219,60 @@ class Survey:
                 finding = smaller
         return finding
 
-    def following(self, group):
+    def following(self, group: List[Requirement]) -> None:
         """Which requirements of a group follow from others together, and from no single one; each with a smallest part that implies it."""
-        found = []
         told = {right for _, right in self.answers.implied}
         for it in group:
             left = [other for other in group if other is not it]
-            if it in told or not self.ask(group, f"what implies {it.name}", lambda: self.questions.follows(left, it)):
+            if it in told or not self.follows(group, left, it):
                 continue
             for other in list(left):
                 fewer = [one for one in left if one is not other]
-                if fewer and self.ask(fewer + [it], f"what implies {it.name}", lambda: self.questions.follows(fewer, it)):
+                if fewer and self.follows(fewer + [it], fewer, it):
                     left = fewer
-            found.append((tuple(left), it))
-        return found
+            self.answers.implied.append((tuple(left), it))
+
+    def follows(self, members: Sequence[Requirement], left: Sequence[Requirement], it: Requirement) -> Optional[bool]:
+        return self.ask(members, f"what implies {it.name}", lambda: self.questions.follows(left, it))
 
 
-def add_arguments(parser):
+# ---- the command
+
+
+def add_arguments(parser: argparse.ArgumentParser) -> None:
     parser.epilog = "Status 1 where something is not well. The files may have constants, use and numbers as arguments, as expand takes them."
     parser.add_argument("files", metavar="FILE", nargs="+")
     parser.add_argument("--inputs", metavar="NAMES", default="", help="the inputs, as a,b: asks too whether a controller of the other names exists")
+    parser.add_argument("--signals", metavar="LIST", help="the names that there are, one in each line: other names are reported")
     parser.add_argument("--jobs", metavar="N", type=int, default=os.cpu_count() or 2, help="how many questions are asked at a time")
+    parser.add_argument("--all", action="store_true", help="lists each question that was not asked, too")
+    parser.add_argument("--cache", metavar="FOLDER", help="keeps answers there, and asks no question again of the same texts and program")
+    parser.add_argument("--plan", metavar="FOLDER", help="asks nothing: writes each open question there, and a list of jobs that answer them")
+    parser.add_argument("--take", metavar="FOLDER", help="takes the answers of the jobs, and asks the rest")
     parser.add_argument("--junit", metavar="OUT", help="writes what is told as a report of tests in JUnit's XML")
 
 
-def run(options, program):
+def run(options: argparse.Namespace, program: Program) -> int:
     start = time.time()
     requirements = [read_requirement(name, path, lambda path: expand.read(lambda: load(path, path), program)) for name, path in named(options.files)]
     inputs = tuple(name for name in options.inputs.split(",") if name)
     strange = [name for name in inputs if not any(name in it.variables for it in requirements)]
-    if strange:
-        print(f"ask set: no file has a variable {strange[0]}", file=sys.stderr)
+    folders = [folder for folder in (options.cache, options.plan, options.take) if folder]
+    if strange or len(folders) > 1:
+        print(f"ask set: no file has a variable {strange[0]}" if strange else "ask set: --cache, --plan and --take are one without the others", file=sys.stderr)
         return 2
-    with ThreadPoolExecutor(max(1, options.jobs)) as pool:
+    signals = read_signals(read_text(options.signals, MOST_TEXT)) if options.signals else None
+    if folders:
+        program.kept = Kept(folders[0], program.command()) if options.cache else Planned(folders[0], program.command(), asks=not options.plan)
+    with program.side_by_side(max(1, options.jobs)) as pool:
         answers = Survey(requirements, Questions(program, inputs), pool, inputs).run()
-    print_report(answers, program.runs, time.time() - start)
+    if isinstance(program.kept, Planned) and program.kept.planned:
+        print(f"{options.plan}: {len(program.kept.planned)} open questions are written, a job for each in {os.path.join(options.plan, 'jobs')}; "
+              f"{program.kept.found} are answered")
+        return 0
+    answers.near = list(near_names(requirements))
+    answers.strange = list(strange_names(requirements, signals)) if signals is not None else []
+    print_report(answers, program, time.time() - start, options.all)
     if options.junit:
         write_junit(answers, options.junit)
     return 0 if answers.is_well else 1

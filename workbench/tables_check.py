@@ -5,10 +5,11 @@ import re
 import shutil
 import subprocess
 import tempfile
-from concurrent.futures import ThreadPoolExecutor
+from typing import Iterator, List, Optional, Sequence, Set, Tuple
 
 import observers
-from automaton import Choice
+from automaton import Automaton, Choice, Diagram
+from program import Program
 from tables import CODE, Tables
 from waves import in_line
 
@@ -57,12 +58,12 @@ class Wrong(Exception):
     """The tables are not the automaton, and where not."""
 
 
-def read_tables(path, name):
+def read_tables(path: str, name: str) -> Tables:
     """The tables that a file in C holds, by its numbers alone."""
     with open(path, encoding="ascii", errors="replace") as file:
         text = re.sub(r"/\*.*?\*/", "", file.read(), flags=re.S)
 
-    def array(field):
+    def array(field: str) -> List[int]:
         match = re.search(rf"\b{name}_{field}\[(\d+)\] = \{{([^}}]*)\}}", text)
         numbers = [int(word) for word in re.findall(r"\d+", match.group(2))] if match else []
         if match is None or len(numbers) != int(match.group(1)):
@@ -79,16 +80,16 @@ def read_tables(path, name):
 # ---- all states and letters
 
 
-def walk(tables, automaton):
+def walk(tables: Tables, automaton: Automaton) -> None:
     """Compares each state's row for all letters at once, by the diagram's nodes: raises Wrong at the first difference."""
     width = len(automaton.variables)
     if (tables.variables, tables.states, len(tables.rows)) != (width, automaton.states, automaton.states):
         raise Wrong(f"the tables have {tables.variables} variables and {tables.states} states, the automaton {width} and {automaton.states}")
     if len(tables.high) != len(tables.low) or len(tables.first) < width or len(tables.accepts) * 8 < tables.states:
         raise Wrong("an array is shorter than the others ask for")
-    same = set()
+    same: Set[Tuple[int, bool, int, int]] = set()
 
-    def compare(diagram, place, letter):
+    def compare(diagram: Diagram, place: int, letter: str) -> Optional[str]:
         """Whether both lead to the same state for each end of the letter; the letter that differs, else None."""
         variable = len(letter)
         key = (id(diagram) if isinstance(diagram, Choice) else diagram, isinstance(diagram, Choice), place, variable)
@@ -123,27 +124,27 @@ def walk(tables, automaton):
 # ---- the compiled code
 
 
-def compile_harness(room, folder, name, tables):
+def compile_harness(room: str, folder: str, name: str, tables: Tables) -> Optional[str]:
     """The program that runs the tables, or None where there is no compiler."""
     compiler = os.environ.get("CC") or next((found for found in ("cc", "gcc", "clang") if shutil.which(found)), None)
     if compiler is None:
         return None
     source, binary = os.path.join(room, "harness.c"), os.path.join(room, "harness")
-    with open(source, "w") as file:
+    with open(source, "w", encoding="ascii") as file:
         file.write(HARNESS.format(name=name, states=tables.states, width=tables.variables))
     wide = ["-DOBSERVER_TABLES_WIDE"] if tables.wide else []
     files = [source, os.path.join(folder, f"{name}_tables.c"), os.path.join(CODE, "observer_tables.c")]
     command = [*compiler.split(), *FLAGS, *wide, "-I", CODE, "-I", folder, "-o", binary, *files]
-    built = subprocess.run(command, stdout=subprocess.PIPE, stderr=subprocess.STDOUT)
+    built = subprocess.run(command, stdout=subprocess.PIPE, stderr=subprocess.STDOUT, check=False)
     if built.returncode:
         raise Wrong(f"{compiler} does not take the tables:\n{built.stdout.decode(errors='replace')}")
     return binary
 
 
-def walk_compiled(binary, automaton):
+def walk_compiled(binary: str, automaton: Automaton) -> None:
     """Each letter from each state, by the compiled code."""
     width = len(automaton.variables)
-    lines = iter(subprocess.run([binary, "walk"], stdout=subprocess.PIPE).stdout.decode().splitlines())
+    lines = iter(subprocess.run([binary, "walk"], stdout=subprocess.PIPE, check=False).stdout.decode().splitlines())
     for state in range(automaton.states):
         for number in range(2 ** width):
             letter = format(number, f"0{width}b")[::-1] if width else "-"
@@ -154,7 +155,7 @@ def walk_compiled(binary, automaton):
                 raise Wrong(f"state {state}, letter {letter}: the compiled code says {found}, the automaton {wanted}")
 
 
-def drawn_behaviours(automaton, count=DRAWN, seed=1):
+def drawn_behaviours(automaton: Automaton, count: int = DRAWN, seed: int = 1) -> Iterator[List[str]]:
     """Behaviours that reach all over the automaton: a state's access word, and then up to 40 letters, some of them held."""
     draw, width = random.Random(seed), len(automaton.variables)
     for _ in range(count):
@@ -165,15 +166,19 @@ def drawn_behaviours(automaton, count=DRAWN, seed=1):
         yield word
 
 
-def answers_of(binary, tables, words):
+def answers_of(binary: Optional[str], tables: Tables, words: Sequence[Sequence[str]]) -> List[str]:
     """What the compiled code (or, where there is none, this script by the numbers) answers at each instant of each word."""
     if binary is None:
         return [by_numbers(tables, word) for word in words]
     text = "".join("".join(letter + "\n" for letter in word) + "\n" for word in words)
-    return subprocess.run([binary], input=text.encode(), stdout=subprocess.PIPE).stdout.decode().split("\n")[:len(words)]
+    done = subprocess.run([binary], input=text.encode(), stdout=subprocess.PIPE, check=False)
+    answers = done.stdout.decode().split("\n")[:-1]
+    if done.returncode or len(answers) != len(words):
+        raise Wrong(f"the compiled code ended with status {done.returncode} after {len(answers)} of {len(words)} behaviours")
+    return answers
 
 
-def by_numbers(tables, word):
+def by_numbers(tables: Tables, word: Sequence[str]) -> str:
     state, found = 0, ""
     for letter in word:
         state = tables.step(state, letter)
@@ -181,9 +186,10 @@ def by_numbers(tables, word):
     return found
 
 
-def run_drawn(program, text, binary, tables, automaton):
+def run_drawn(program: Program, text: str, binary: Optional[str], tables: Tables, automaton: Automaton) -> Tuple[int, int]:
     """The drawn behaviours through the tables and through the program's own observer; how many there were, and their instants."""
-    words, instants = [], 0
+    words: List[List[str]] = []
+    instants = 0
     for word in drawn_behaviours(automaton):
         instants += len(word)
         if words and instants * automaton.states > REPLAYED:
@@ -196,17 +202,17 @@ def run_drawn(program, text, binary, tables, automaton):
     return len(words), sum(map(len, words))
 
 
-def replayed(program, observer, tables, words):
+def replayed(program: Program, observer: str, tables: Tables, words: Sequence[Sequence[str]]) -> List[str]:
     """What replay-c answers: in one run, by an input that restarts the observer, or with 16 variables, which leave no room for one, in a run each."""
     if tables.variables < 16:
         trace = [("0" if instant else "1") + letter.strip("-") for word in words for instant, letter in enumerate(word)]
         answers = iter(program.replay(observers.restarted(observer), trace))
         return ["".join(str(int(next(answers))) for _ in word) for word in words]
-    with ThreadPoolExecutor(4) as pool:
+    with program.side_by_side(4) as pool:
         return list(pool.map(lambda word: "".join(str(int(answer)) for answer in program.replay(observer, word)), words))
 
 
-def verify(program, text, automaton, folder, name):
+def verify(program: Program, text: str, automaton: Automaton, folder: str, name: str) -> int:
     """Says what was checked, with status 0; or where the tables are wrong, with status 1."""
     path = os.path.join(folder, f"{name}_tables.c")
     try:

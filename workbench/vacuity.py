@@ -1,6 +1,9 @@
 """The last question of `review`: parts of a requirement that do not matter, variables that decide nothing, values that never happen."""
-from language import goal_text, to_text
+from typing import Dict, FrozenSet, Iterator, List, Optional, Tuple
+
+from language import File, Tree, goal_text, to_text
 from names import expand
+from questions import Occurrence, Requirement
 
 CONSTANTS = ("true", "false", "p_true", "p_false")
 
@@ -13,7 +16,7 @@ ROLES = {
 }
 
 
-def role(occurrence, constant):
+def role(occurrence: Occurrence, constant: str) -> str:
     kind = occurrence.parent.kind.replace("p_", "") if occurrence.parent else ""
     if (kind, constant) == ("and", "true"):
         return "the others of the && imply it"
@@ -25,7 +28,7 @@ def role(occurrence, constant):
 BOTH = frozenset((1, -1))
 
 
-def signs_below(tree, signs):
+def signs_below(tree: Tree, signs: FrozenSet[int]) -> List[FrozenSet[int]]:
     """For each part of a tree whether more behaviours of it make more of the whole (1), fewer (-1), or either."""
     turned = frozenset(-sign for sign in signs)
     kind = tree.kind.replace("p_", "")
@@ -40,11 +43,12 @@ def signs_below(tree, signs):
     return [signs] * len(tree.parts)
 
 
-def signs_of(file):
+def signs_of(file: File) -> Dict[int, FrozenSet[int]]:
     """The signs of all parts of the goal and of the macros that it reaches, by the identity of their trees."""
-    found, calls = {}, {}
+    found: Dict[int, FrozenSet[int]] = {}
+    calls: Dict[str, FrozenSet[int]] = {}
 
-    def walk(tree, signs):
+    def walk(tree: Tree, signs: FrozenSet[int]) -> None:
         found[id(tree)] = signs
         if tree.kind in ("name", "call"):
             calls[tree.value] = calls.get(tree.value, frozenset()) | signs
@@ -57,22 +61,22 @@ def signs_of(file):
     return found
 
 
-def candidates(requirement):
+def candidates(requirement: Requirement) -> Iterator[Tuple[Occurrence, str]]:
     """Each part that a constant could stand for, with the constants. A theorem stays one where it is made weaker, so of it the
     constants are left out that do so, or that may."""
     goal, signs = requirement.file.goal, signs_of(requirement.file)
     for occurrence in requirement.occurrences():
-        if occurrence.tree is not goal and occurrence.tree.kind not in CONSTANTS:
+        if occurrence.tree is not goal and occurrence.tree.kind not in CONSTANTS and requirement.is_own(occurrence.tree):
             for constant, stronger in (("true", -1), ("false", 1)):
                 if not requirement.verdict.valid or signs[id(occurrence.tree)] == {stronger}:
                     yield occurrence, constant
 
 
-def needless(requirement):
+def needless(requirement: Requirement) -> Iterator[Tuple[Occurrence, str, int]]:
     """Parts in whose place a constant leaves the meaning as it is, none of them inside another one; with the states that are then needed."""
     cases = list(candidates(requirement))
-    answers = requirement.side_by_side(lambda occurrence, constant: requirement.automaton(requirement.put(*occurrence.place, constant)), cases)
-    told = []
+    answers = requirement.side_by_side(lambda occurrence, constant: requirement.automaton(requirement.put(occurrence.tree.start, occurrence.tree.end, constant)), cases)
+    told: List[Tuple[int, int]] = []
     for (occurrence, constant), answer in zip(cases, answers):
         start, end = occurrence.place
         if answer is None or answer[0] != requirement.meaning or any(first <= start and end <= last for first, last in told):
@@ -81,11 +85,11 @@ def needless(requirement):
         yield occurrence, constant, answer[1]
 
 
-def needless_lines(requirement):
+def needless_lines(requirement: Requirement) -> Iterator[str]:
     most = max(requirement.steps, default=0)
     for occurrence, constant, states in needless(requirement):
         tree, why = occurrence.tree, role(occurrence, constant)
-        line = f"line {requirement.line(tree)}: {requirement.part(tree)} may be {constant} and the meaning is the same" + (f": {why}" if why else "")
+        line = f"{requirement.line(tree)}: {requirement.part(tree)} may be {constant} and the meaning is the same" + (f": {why}" if why else "")
         if states > most:
             line += f" (it is there for the budget: a step has {states} states without it, and {most} with it)"
         yield line
@@ -94,7 +98,7 @@ def needless_lines(requirement):
 # ---- parts that are constant by themselves
 
 
-def by_itself(requirement, tree):
+def by_itself(requirement: Requirement, tree: Tree) -> Optional[str]:
     """`always true` or `never true` where the part is, whatever its variables do; else nothing."""
     names = sorted({part.value for part in tree.walk() if part.kind == "name"})
     if tree.kind in CONSTANTS + ("name", "pt", "ext") or len(names) > 16:
@@ -107,18 +111,19 @@ def by_itself(requirement, tree):
     return "never true" if not can.satisfiable else "always true" if must.valid else None
 
 
-def constant_lines(requirement):
+def constant_lines(requirement: Requirement) -> Iterator[str]:
     """The innermost parts of the goal, macros in place, that are constant; of a theorem those that are never true."""
     goal = expand(requirement.file)
     parts = {to_text(tree): tree for tree in reversed(list(goal.walk())) if tree is not goal}
     found = dict(zip(parts, requirement.side_by_side(lambda tree: by_itself(requirement, tree), [(tree,) for tree in parts.values()])))
     told = ("never true",) if requirement.verdict.valid else ("never true", "always true")
     for text, tree in reversed(list(parts.items())):
-        if found[text] in told and not any(found.get(to_text(part)) for part in list(tree.walk())[1:]):
-            yield f"line {requirement.line(tree)}: {text if len(text) <= 60 else text[:57] + ' ..'} is {found[text]}, whatever its variables do"
+        inside = [part for part in list(tree.walk())[1:] if requirement.is_own(part)]
+        if found[text] in told and requirement.is_own(tree) and not any(found.get(to_text(part)) for part in inside):
+            yield f"{requirement.line(tree)}: {text if len(text) <= 60 else text[:57] + ' ..'} is {found[text]}, whatever its variables do"
 
 
-def section(requirement):
+def section(requirement: Requirement) -> List[str]:
     verdict = requirement.verdict
     if not verdict.satisfiable:
         return list(constant_lines(requirement))

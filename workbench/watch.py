@@ -3,10 +3,14 @@ import argparse
 import itertools
 import sys
 from collections import deque
+from typing import Deque, Dict, Iterator, List, MutableSequence, Sequence, Tuple
 
 import observers
-from language import parse, read_text
-from logs import LogFault, rows_of
+from expand import Text
+from language import natural, parse
+from logs import LogFault, Row, rows_of
+from program import Program
+from shapes import is_number
 from waves import Run, instants, runs
 
 PIECE = 200_000  # rows that are replayed in one run: a trace has 1,000,000 instants at most
@@ -20,7 +24,7 @@ class Unconfirmed(Exception):
 class Watch:
     """A log that is being watched: the state in which the last piece ended, how many rows there were, and what is shown of them."""
 
-    def __init__(self, program, text, rearm):
+    def __init__(self, program: Program, text: str, rearm: bool) -> None:
         self.program, self.rearm = program, rearm
         self.automaton = program.automaton(text)
         self.observer = program.observer(text)
@@ -28,12 +32,12 @@ class Watch:
             rejecting = [state for state, accept in enumerate(self.automaton.accept) if not accept]
             self.observer = observers.rearmed(self.observer, rejecting)
         self.state = self.count = self.broken = 0
-        self.last = None  # the last instant at which it is broken
-        self.before = deque(maxlen=BEFORE)  # runs of rows up to now, until the first violation
-        self.behind = None  # after it, the rows that follow
-        self.violations = []  # instant, label and letter of the first ones
+        self.last = 0  # the last instant at which it is broken
+        self.before: Deque[Tuple[Run, str]] = deque(maxlen=BEFORE)  # runs of rows up to the first violation, each with its first label
+        self.after: List[Tuple[Run, str]] = []  # those that follow it: one more than is shown
+        self.violations: List[Tuple[int, str, str]] = []  # instant, label and letter of the first ones
 
-    def piece(self, rows, last):
+    def piece(self, rows: Sequence[Row], last: bool) -> None:
         """Takes some more rows; `last` where no others follow."""
         word = [letter for _, letter in rows]
         answers = self.program.replay(observers.from_state(self.observer, self.state), word)
@@ -42,38 +46,27 @@ class Watch:
             self.go_on(word)
         self.count += len(rows)
 
-    def note(self, rows, word, broken):
+    def note(self, rows: Sequence[Row], word: Sequence[str], broken: Sequence[int]) -> None:
         """Keeps what is told of these rows."""
+        begun = 0 if self.violations else broken[0] + 1 if broken else len(rows)
         self.broken += len(broken)
         for place in broken[:max(0, MOST - len(self.violations))]:
             self.violations.append((self.count + place, *rows[place]))
         if broken:
             self.last = self.count + broken[-1]
-        begun = 0
-        if self.behind is None:
-            begun = broken[0] + 1 if broken else len(rows)
-            self.keep(rows, word[:begun])
-            if broken:
-                self.behind = []
-        if self.behind is not None and len(self.behind) < 1000:
-            self.behind += [(label, letter) for label, letter in rows[begun:begun + 1000 - len(self.behind)]]
+        keep(self.before, self.count, rows[:begun])
+        if len(self.after) <= BEHIND:
+            keep(self.after, self.count + begun, rows[begun:])
+            del self.after[BEHIND + 1:]
 
-    def keep(self, rows, word):
-        """The runs of a part before the first violation; one that goes on from the part before stays one."""
-        for run in runs(word):
-            if self.before and self.before[-1][0].value == run.value:
-                old, label = self.before[-1]
-                self.before[-1] = Run(old.first, self.count + run.last, run.value), label
-            else:
-                self.before.append((Run(self.count + run.first, self.count + run.last, run.value), rows[run.first][0]))
-
-    def go_on(self, word):
+    def go_on(self, word: Sequence[str]) -> None:
         """The state after a piece, by the automaton's text, confirmed by the program."""
-        state, known = self.state, {}
+        state = reached = self.state
+        known: Dict[Tuple[int, str], Tuple[int, int]] = {}
         for letter in word:
             step = (state, letter)
             if step not in known:
-                there = known[step] = self.automaton.step(state, letter)
+                there = self.automaton.step(state, letter)
                 known[step] = (there, 0 if self.rearm and not self.automaton.accept[there] else there)
             reached, state = known[step]
         asked = observers.asks_state(observers.from_state(self.observer, self.state), reached)
@@ -82,10 +75,21 @@ class Watch:
         self.state = state
 
 
+def keep(kept: MutableSequence[Tuple[Run, str]], first: int, rows: Sequence[Row]) -> None:
+    """Adds the runs of some rows, of which this is the first instant; one that goes on from those before stays one."""
+    for run in runs(letter for _, letter in rows):
+        begin, last = first + run.first, first + run.last
+        if kept and kept[-1][0].value == run.value:
+            old, label = kept[-1]
+            kept[-1] = Run(old.first, last, run.value), label
+        else:
+            kept.append((Run(begin, last, run.value), rows[run.first][0]))
+
+
 MOST = 100  # violations that are listed
 
 
-def pieces(rows, size):
+def pieces(rows: Iterator[Row], size: int) -> Iterator[Tuple[List[Row], bool]]:
     """The rows in pieces, each with whether it is the last."""
     part = list(itertools.islice(rows, size))
     while part:
@@ -97,11 +101,11 @@ def pieces(rows, size):
 # ---- what is said
 
 
-def place_of(first, last):
+def place_of(first: int, last: int) -> str:
     return str(first) if first == last else f"{first} .. {last}"
 
 
-def shown_rows(variables, watch):
+def shown_rows(variables: Sequence[str], watch: Watch) -> Iterator[str]:
     """The rows around the first violation, a line for each run of equal ones."""
     at = watch.violations[0][0]
     lines = [(run.first, run.last, label, run.value) for run, label in watch.before]
@@ -109,8 +113,7 @@ def shown_rows(variables, watch):
     if first < last:
         lines.append((first, at - 1, label, letter))
     lines.append((at, at, watch.violations[0][1], letter))
-    for run in runs([letter for _, letter in watch.behind])[:BEHIND]:
-        lines.append((at + 1 + run.first, at + 1 + run.last, watch.behind[run.first][0], run.value))
+    lines += [(run.first, run.last, label, run.value) for run, label in watch.after[:BEHIND]]
     places = [place_of(first, last) for first, last, _, _ in lines]
     wide, labels = max(map(len, places + ["instant"])), max([len(line[2]) for line in lines] + [3])
     yield f"      {'instant':>{wide}}  {'row':>{labels}}  " + "  ".join(variables)
@@ -119,7 +122,7 @@ def shown_rows(variables, watch):
         yield f"{'  --> ' if first == at else '      '}{place:>{wide}}  {label:>{labels}}  {digits}".rstrip()
 
 
-def said(variables, watch):
+def said(variables: Sequence[str], watch: Watch) -> Iterator[str]:
     if not watch.broken:
         yield f"holds at each of {instants(watch.count)}"
         return
@@ -138,20 +141,20 @@ def said(variables, watch):
 # ---- the command
 
 
-def column(word):
+def column(word: str) -> Tuple[str, str]:
     variable, mark, name = word.partition("=")
     if not mark or not variable or not name:
         raise argparse.ArgumentTypeError(f"{word} is not VARIABLE=NAME")
     return variable, name
 
 
-def at_least_one(word):
-    if not word.isdigit() or int(word) < 1:
+def at_least_one(word: str) -> int:
+    if not is_number(word) or natural(word) < 1:
         raise argparse.ArgumentTypeError(f"{word} is no number of 1 or more")
-    return int(word)
+    return natural(word)
 
 
-def add_arguments(parser):
+def add_arguments(parser: argparse.ArgumentParser) -> None:
     parser.add_argument("file", metavar="FILE")
     parser.add_argument("log", metavar="LOG", help="a CSV file with a header, or a VCD file (by its name's ending .vcd)")
     parser.add_argument("--rearm", action="store_true", help="all violations: after each one the requirement begins anew")
@@ -165,8 +168,8 @@ def add_arguments(parser):
     parser.add_argument("--piece", metavar="N", type=at_least_one, default=PIECE, help=f"the rows of one replay, 1,000,000 at most (else {PIECE})")
 
 
-def run(options, program):
-    text = read_text(options.file)
+def run(options: argparse.Namespace, program: Program) -> int:
+    text = Text(options.file, options.shown).text
     if program.fault(text):
         program.ask("check", text)
     variables = parse(text).variables
@@ -180,7 +183,7 @@ def run(options, program):
         return 125
 
 
-def judged(options, program, text, variables):
+def judged(options: argparse.Namespace, program: Program, text: str, variables: Sequence[str]) -> int:
     unknown = [name for name, _ in options.column if name not in variables]
     if unknown:
         raise LogFault(f"--column: {unknown[0]} is no variable of {options.shown}; it has: {', '.join(variables) or 'none'}")

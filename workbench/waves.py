@@ -1,6 +1,7 @@
 """Behaviours as text: waves in which long runs of equal instants are folded, tables of digits, and a word in one line."""
 import shutil
-from typing import List, NamedTuple
+from dataclasses import dataclass
+from typing import Any, Iterable, List, NamedTuple, Optional, Sequence
 
 LEVELS = {"1": "#", "0": "_"}
 ROOM = 4  # a run of at most so many instants is drawn whole
@@ -11,14 +12,15 @@ class Run(NamedTuple):
 
     first: int
     last: int
-    value: object
+    value: Any
 
     @property
-    def length(self):
+    def length(self) -> int:
         return self.last - self.first + 1
 
 
-class Column(NamedTuple):
+@dataclass(frozen=True)
+class Column:
     """What a picture shows in one place: `count` instants from `first` on, all with the same letter."""
 
     first: int
@@ -29,8 +31,8 @@ class HiddenChange(ValueError):
     """A fold that does not say what the word does."""
 
 
-def runs(things) -> List[Run]:
-    found = []
+def runs(things: Iterable[Any]) -> List[Run]:
+    found: List[Run] = []
     for place, value in enumerate(things):
         if found and found[-1].value == value:
             found[-1] = Run(found[-1].first, place, value)
@@ -39,9 +41,9 @@ def runs(things) -> List[Run]:
     return found
 
 
-def columns(word) -> List[Column]:
+def columns(word: Sequence[str]) -> List[Column]:
     """The columns of a picture: of a long run its first and last instant, and between them how many there are."""
-    found = []
+    found: List[Column] = []
     for run in runs(word):
         if run.length <= ROOM:
             found += [Column(place, 1) for place in range(run.first, run.last + 1)]
@@ -50,7 +52,7 @@ def columns(word) -> List[Column]:
     return found
 
 
-def check_columns(word, shown):
+def check_columns(word: Sequence[str], shown: Sequence[Column]) -> None:
     """Raises HiddenChange where columns leave an instant out, or fold instants that differ."""
     place = 0
     for column in shown:
@@ -64,11 +66,11 @@ def check_columns(word, shown):
         raise HiddenChange(f"instant {place} is not shown")
 
 
-def terminal_width():
+def terminal_width() -> int:
     return max(40, shutil.get_terminal_size((100, 24)).columns)
 
 
-def waves(variables, word, width=None, shown=None):
+def waves(variables: Sequence[str], word: Sequence[str], width: Optional[int] = None, shown: Optional[Sequence[Column]] = None) -> List[str]:
     """A line for each variable: # where it is true, _ where it is false. `x7` stands for 7 instants that are all like those beside it.
 
     Where a line would be wider than `width` (the terminal's where it is not given), the picture goes on below.
@@ -76,7 +78,9 @@ def waves(variables, word, width=None, shown=None):
     shown = columns(word) if shown is None else shown
     check_columns(word, shown)
     margin = max([7] + [len(name) for name in variables]) + 1
-    lines, block, used = [], [], margin
+    lines: List[str] = []
+    block: List[Column] = []
+    used = margin
     for column in shown:
         cell = _cell(column)
         if block and used + cell > (width or terminal_width()):
@@ -87,12 +91,12 @@ def waves(variables, word, width=None, shown=None):
     return lines + _block(variables, word, block, margin)
 
 
-def _cell(column):
+def _cell(column: Column) -> int:
     """How wide a column is."""
     return max(3, len(str(column.first)) + 1) if column.count == 1 else len(str(column.count)) + 5
 
 
-def _block(variables, word, block, margin):
+def _block(variables: Sequence[str], word: Sequence[str], block: Sequence[Column], margin: int) -> List[str]:
     head = "instant".ljust(margin)
     for column in block:
         head += (str(column.first) if column.count == 1 else ".. ").rjust(_cell(column))
@@ -106,7 +110,7 @@ def _block(variables, word, block, margin):
     return lines
 
 
-def table(variables, word):
+def table(variables: Sequence[str], word: Sequence[str]) -> List[str]:
     """A line for each instant, with a digit below each name."""
     lines = ["  ".join(["instant", *variables])]
     for instant, letter in enumerate(word):
@@ -115,15 +119,15 @@ def table(variables, word):
     return lines
 
 
-def in_line(word):
+def in_line(word: Sequence[str]) -> str:
     """A word in one line, as `10 00 x3 01`: a letter three or more times in a row is written once."""
-    parts = []
+    parts: List[str] = []
     for run in runs(word):
         parts += [run.value] * run.length if run.length < 3 else [f"{run.value} x{run.length}"]
     return " ".join(parts)
 
 
-def spoken_runs(answers):
+def spoken_runs(answers: Sequence[Any]) -> str:
     """Answers as runs, as `1 at 0 .. 4024, 0 from 4025`."""
     found = runs(answers)
     parts = []
@@ -135,10 +139,10 @@ def spoken_runs(answers):
     return ", ".join(parts)
 
 
-def instants(number):
+def instants(number: int) -> str:
     return f"{number} instant" + "s" * (number != 1)
 
 
-def heading(what, word):
+def heading(what: str, word: Sequence[str]) -> str:
     """What stands above a behaviour: what it does, and how long it is."""
     return f"{what}, {instants(len(word))}:"

@@ -49,7 +49,7 @@ A shortest behaviour that meets it, 1 instant:
         self.assertIn("That line of the trace", error)
         output, _ = self.said("replay-lustre", "--table", observer, text, output="1\n0\n", error="fault line 3\n", status=8)
         self.assertEqual(output, "  instant 0: the behaviour so far is accepted\n  instant 1: it is not\n")
-        output, _ = self.said("replay-c", observer, text, output="1\n" * 4025 + "0\n" * 5)
+        output, _ = self.said("replay-c", observer, self.file("trace", "0\n" * 4030), output="1\n" * 4025 + "0\n" * 5)
         self.assertTrue(output.startswith("  1 at 0 .. 4024, 0 from 4025\n"))
         _, error = self.said("replay-lustre", observer, text, error="fault observer names at 56\n", status=9)
         self.assertIn("line 3", error)
@@ -63,9 +63,11 @@ A shortest behaviour that meets it, 1 instant:
 
     def test_programs(self):
         text = self.file("text.dc", "var p; infer <p>;")
-        for command in ("lustre", "c", "all"):
-            output, _ = self.said(command, text, output="--- c\nstatic int st;\n0\n", status=1)
-            self.assertEqual(output, "--- c\nstatic int st;\n0\n")
+        for command, said in (("c", "static int st;\n0\n}\n"), ("lustre", "node observer(v_p: bool)\n0\ntel\n")):
+            self.assertEqual(self.said(command, text, output=said, status=1)[0], said)
+        said = ("--- verdict\nnot valid\nnot satisfiable\ncounterexample 1\n0\n--- automaton\nautomaton 2\nvariables p\nend\n"
+                "--- lustre\nnode observer(v_p: bool)\n0\ntel\n--- c\nstatic int st;\n0\n}\n")
+        self.assertEqual(self.said("all", text, output=said, status=1)[0], said)
 
     def test_counts(self):
         output, _ = self.said("sweep", "0", "1", output="formulas 1\nvalid 0\nsatisfiable 1\nover 0\nstates 3\n")
@@ -93,8 +95,8 @@ A shortest behaviour that meets it, 1 instant:
     def test_play(self):
         """Of a requirement by which the output of an instant has to be the input of the next."""
         strategy = "unrealisable\\nbound 2\\nstate 0 rank 2 input 0\\nstate 1 rank 1 input 1\\nstate 2 rank 1 input 0\\nend\\n"
-        automaton = ("automaton 1\\nvariables a b\\nstates 4\\nnode n0 b ? t2 : t1\\nnode n1 a ? t3 : n0\\nnode n2 a ? n0 : t3\\nstate 0 reject n0\\n"
-                     "state 1 accept n1\\nstate 2 accept n2\\nstate 3 reject t3\\nend\\n")
+        automaton = ("automaton 2\\nvariables a b\\nstates 4\\nnode n0 b ? t2 : t1\\nnode n1 a ? t3 : n0\\nnode n2 a ? n0 : t3\\nstate 0 reject n0\\n"
+                     "state 1 accept n1\\nstate 2 accept n2\\nstate 3 reject t3\\nsteps 0\\nend\\n")
         game = self.file("game", f"#!/bin/sh\ncase $1 in synth) printf '{strategy}'; exit 1 ;; *) printf '{automaton}' ;; esac\n")
         os.chmod(game, 0o755)
         text = self.file("text.dc", "var a, b;\ninfer []({{b}} => true ^ <a>) && []({{!b}} => true ^ <!a>);\n")

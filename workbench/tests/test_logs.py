@@ -53,7 +53,7 @@ class Logs(unittest.TestCase):
         self.assertEqual(self.rows(text, ["request", "grant"]), [("0.0", "01"), ("0.5", "10")])
 
     def test_without_a_column_for_labels_rows_have_their_lines(self):
-        self.assertEqual(self.rows("p\n1\n\n0\n", ["p"]), [("2", "1"), ("4", "0")])
+        self.assertEqual(self.rows("p\n1\n0\n\n", ["p"]), [("2", "1"), ("3", "0")])
 
     def test_other_separators_and_a_byte_order_mark(self):
         for mark in ";\t":

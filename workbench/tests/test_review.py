@@ -1,7 +1,7 @@
 """`review`: boundaries, near misses, examples and parts that do not matter, of requirements whose answers are reasoned out by hand."""
 import unittest
 
-from language import read_text
+from expand import Text
 from names import expand
 from program import Program
 from support import PROGRAM, WithFolder, examples, needs_program, run
@@ -97,11 +97,11 @@ class Review(WithFolder):
         for path in examples():
             if any(name in path for name in ("deadlines", "edge_count", "gas_burner", "separation")):
                 continue  # they take long, or are over the limits
-            requirement = Requirement(Program(PROGRAM), read_text(path))
+            requirement = Requirement(Program(PROGRAM), Text(path, path))
             goal = expand(requirement.file)
             for place, variable in enumerate(requirement.variables):
                 for high in (True, False):
-                    asked, searched = review.near_miss(requirement, goal, variable, high), differing(requirement.automaton_read(), place, high)
+                    asked, searched = review.near_miss(requirement, goal, variable, high), differing(requirement.automaton_read, place, high)
                     self.assertEqual(bool(asked), bool(searched))
                     if asked and "over" not in (asked, searched):
                         found += 1

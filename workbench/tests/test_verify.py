@@ -6,6 +6,9 @@ import random
 import re
 import unittest
 
+import diagrams
+import forms
+import printed
 import verify
 from language import Fault, parse, read_text
 from program import Program
@@ -77,7 +80,7 @@ def accepts(automaton, word):
     """By a walk, letter by letter."""
     place = 0
     for letter in word:
-        place = verify.follow(automaton.rows[place], {variable for variable, digit in enumerate(letter) if digit == "1"})
+        place = diagrams.follow(automaton.rows[place], {variable for variable, digit in enumerate(letter) if digit == "1"})
     return automaton.accept[place]
 
 
@@ -138,7 +141,7 @@ def holds(tree, word, b, e):
     kind, parts, inside = tree.kind, tree.parts, range(b, e + 1)
     if kind in ("slen", "scount", "sdur"):
         ends = range(b, e + (kind == "scount"))
-        return verify.RELATIONS[tree.value[0]](e - b if kind == "slen" else sum(value(parts[0], word, i) for i in ends), tree.value[1])
+        return forms.RELATIONS[tree.value[0]](e - b if kind == "slen" else sum(value(parts[0], word, i) for i in ends), tree.value[1])
     if kind in ("point", "run", "every", "unit"):
         true = [value(parts[0], word, i) for i in inside]
         return {"point": b == e and true[0], "run": b < e and all(true[:-1]), "every": all(true), "unit": e == b + 1 and true[0]}[kind]
@@ -217,7 +220,7 @@ class Right(WithFolder):
             check = checked(f"var p, q; infer {goal};")
             units = output_of("c", check.text), output_of("lustre", check.text)
             for (state, row), letter in itertools.product(check.rows.items(), ("00", "01", "10", "11")):
-                place = verify.follow(row, {variable for variable in (0, 1) if letter[variable] == "1"})
+                place = diagrams.follow(row, {variable for variable in (0, 1) if letter[variable] == "1"})
                 for unit in units:
                     self.assertEqual(stepped(unit, state, {"p": letter[0], "q": letter[1]}), (place, check.accept[place]), unit)
             kind, _, controller = output_of("synth", check.text, "--inputs", "1").partition("\n")
@@ -225,7 +228,7 @@ class Right(WithFolder):
             for state in states:  # which are found on the way
                 for p in "01":
                     place, q = stepped(controller, state, {"p": p})
-                    self.assertEqual(verify.follow(check.rows[state], [0] * (p == "1") + [1] * q), place)
+                    self.assertEqual(diagrams.follow(check.rows[state], [0] * (p == "1") + [1] * q), place)
                     self.assertTrue(check.accept[place])
                     states += [place] * (place not in states)
 
@@ -256,8 +259,14 @@ class Right(WithFolder):
             self.assertIn(why, err)
 
     def test_a_difference(self):
-        status, out, err = run("ask", "verify", self.file("a.dc", "var p; infer <p>;"), program=self.stub("automaton 2\n"))
-        self.assertEqual((status, out, err), (1, "different: the automaton of the file: its text is of another form\n", ""))
+        answer = "automaton 2\nvariables p\nstates 1\nstate 0 accept t0\naccess 0 start 0\nsuffix 0 empty\nsteps 0\nend\n"
+        status, out, err = run("ask", "verify", self.file("a.dc", "var p; infer <p>;"), program=self.stub(answer))
+        said = "different: the automaton of the file: after 0 the automaton is in state 0 and accepts, and its form does not\n"
+        self.assertEqual((status, out, err), (1, said, ""))
+
+    def test_the_status_of_an_automaton(self):
+        text = "var p; infer <p>;"
+        self.assertRaisesRegex(verify.Wrong, "the status of automaton", verify.Check, Changed("automaton", text, output_of("automaton", text), 0), text)
 
 
 @needs_program
@@ -357,15 +366,15 @@ class Planted(unittest.TestCase):
         """No letter leads to state 0, so that it rejects tells it from nothing. From it 0 and 1 both lead to state 1, from state 1 only 0 does."""
         for suffixes, right in (("suffix 0 empty\nsuffix 1 0 0\n", False), ("suffix 0 empty\nsuffix 1 0 0\nsuffix 2 1 0\n", True)):
             if right:
-                verify.Printed("", START.format("reject", suffixes), {"p": 0}).check_suffixes()
-                self.assertRaisesRegex(verify.Wrong, "its start accepts", verify.Printed, "", START.format("accept", suffixes), {"p": 0})
+                printed.Printed("", START.format("reject", suffixes), {"p": 0}).check_suffixes()
+                self.assertRaisesRegex(verify.Wrong, "its start accepts", printed.Printed, "", START.format("accept", suffixes), {"p": 0})
             else:
-                self.assertRaisesRegex(verify.Wrong, "states 0 and 1 apart", verify.Printed("", START.format("reject", suffixes), {"p": 0}).check_suffixes)
+                self.assertRaisesRegex(verify.Wrong, "states 0 and 1 apart", printed.Printed("", START.format("reject", suffixes), {"p": 0}).check_suffixes)
 
     def judged(self, text, malformed=False):
         """What verify says of a text's words, and what `apart` does."""
         try:
-            verify.Printed("", text, {"p": 0, "q": 1}).check_suffixes()
+            printed.Printed("", text, {"p": 0, "q": 1}).check_suffixes()
             return True, not malformed and apart(text)
         except verify.Wrong:
             return False, not malformed and apart(text)
@@ -466,7 +475,7 @@ class Planted(unittest.TestCase):
 
 def apart(text):
     """Whether the suffixes of a text tell all its access words apart, each some that none before it does, by following each word letter by letter."""
-    automaton = verify.Automaton(0, dict(enumerate(rows_of(text))).get, [line.split()[2] == "accept" for line in re.findall("^state .*", text, re.M)].__getitem__)
+    automaton = diagrams.Automaton(0, dict(enumerate(rows_of(text))).get, [line.split()[2] == "accept" for line in re.findall("^state .*", text, re.M)].__getitem__)
     words, suffixes, told = {}, [], set()
     for line in re.findall("^access .*", text, re.M):
         _, state, before, *letter = line.split()
@@ -490,7 +499,7 @@ def rows_of(text):
         return nodes[word] if word in nodes else int(word[1:])
 
     for _, name, variable, _, high, _, low in map(str.split, re.findall("^node .*", text, re.M)):
-        nodes[name] = verify.choice("pq".index(variable), end(high), end(low))
+        nodes[name] = diagrams.choice("pq".index(variable), end(high), end(low))
     return [end(line.split()[3]) for line in re.findall("^state .*", text, re.M)]
 
 
