@@ -9,11 +9,13 @@ once with drawn letters, with resets so that no run stays in one state. A compil
 
 The last figures: 1 December 2026, four processors at 2.5 GHz with other work, gcc 12.2 and clang 14, so a time is right within a half.
 
+                        text        read-only   gcc      clang      letters mostly alike, drawn
 FIGURES
 """
 import os
 import re
 import resource
+import signal
 import subprocess
 import sys
 import tempfile
@@ -85,14 +87,18 @@ static int observer_step({parameters}) {{ return observer_tables_step(&watch, {b
 def cpu(*words, seconds=60):
     """The processor seconds of a command and its output, or none where it fails or is stopped."""
     before = resource.getrusage(resource.RUSAGE_CHILDREN)
+    # (a compiler is several processes, which are stopped together)
+    process = subprocess.Popen(words, stdout=subprocess.PIPE, stderr=subprocess.DEVNULL, text=True, start_new_session=True)
     try:
-        done = subprocess.run(words, capture_output=True, text=True, timeout=seconds)
+        output, _ = process.communicate(timeout=seconds)
     except subprocess.TimeoutExpired:
+        os.killpg(process.pid, signal.SIGKILL)
+        process.communicate()
         return None, ""
     after = resource.getrusage(resource.RUSAGE_CHILDREN)
-    if done.returncode not in (0, 1):
+    if process.returncode not in (0, 1):
         return None, ""
-    return after.ru_utime + after.ru_stime - before.ru_utime - before.ru_stime, done.stdout
+    return after.ru_utime + after.ru_stime - before.ru_utime - before.ru_stime, output
 
 
 def read_only(path):

@@ -12,7 +12,7 @@ class Malformed(Exception):
 LETTERS = r"(?:(?:[01]+|-)\n)+"
 COUNTEREXAMPLE, EXAMPLE = rf"counterexample [1-9]\d*\n{LETTERS}", rf"example [1-9]\d*\n{LETTERS}"
 VERDICTS = {0: rf"valid\nsatisfiable\n{EXAMPLE}", 1: rf"not valid\n(?:satisfiable\n{COUNTEREXAMPLE}{EXAMPLE}|not satisfiable\n{COUNTEREXAMPLE})"}
-AUTOMATON, LUSTRE, C = r"automaton 2\nvariables .*\nend\n", r"node observer\(.*\ntel\n", r"static int st;\n.*\n\}\n"
+AUTOMATON, LUSTRE, C, TABLES = r"automaton 2\nvariables .*\nend\n", r"node observer\(.*\ntel\n", r"static int st;\n.*\n\}\n", r"enum \{ states = .*\n\}\n"
 ALL = rf"--- automaton\n{AUTOMATON}--- lustre\n{LUSTRE}--- c\n{C}"
 
 # What each command's answer is, by its status.
@@ -21,6 +21,7 @@ WRITTEN: Dict[str, Dict[int, str]] = {
     "automaton": dict.fromkeys((0, 1), AUTOMATON),
     "lustre": dict.fromkeys((0, 1), LUSTRE),
     "c": dict.fromkeys((0, 1), C),
+    "tables": dict.fromkeys((0, 1), TABLES),
     "all": {status: rf"--- verdict\n{verdict}{ALL}" for status, verdict in VERDICTS.items()},
     "implies": {0: r"implies\n", 1: rf"does not imply\n{COUNTEREXAMPLE}"},
     "stuck": {0: r"never stuck\n", 1: rf"stuck (?:0\n|[1-9]\d*\n{LETTERS})"},

@@ -50,7 +50,7 @@ class Explainer:
         if command == "synth":
             said = "realisable: the functions below keep to the requirement for ever, whatever the inputs are"
             return [said, *output.splitlines()[1:]]
-        if command in ("lustre", "c", "all"):  # programs, and texts between lines that name them
+        if command in ("lustre", "c", "tables", "all"):  # programs, and texts between lines that name them
             return output.splitlines()
         if output.startswith("automaton "):
             return output.splitlines() + (self.parts(output) if command == "automaton" else [])

@@ -91,6 +91,23 @@ def unit_in_c(kind: str, names: Sequence[str], returned: str, **rows: Dict[int, 
             + "\n  ".join(f"int {name};" for name in declared) + "\n\n  " + "\n  ".join(lines) + "\n}\n")
 
 
+def tables_in_c(names: Sequence[str], accept: Dict[int, bool], rows: Dict[int, Diagram]) -> str:
+    """Constant tables: a place below the number of states is a state, and any other a node, counted on from there."""
+    nodes, states = [*numbered(rows.values())], len(rows)
+    places: Dict[Diagram, int] = {**{state: state for state in rows}, **{node: states + number for number, node in enumerate(nodes)}}
+    place = "unsigned short" if len(places) <= 65_535 else "unsigned long"
+    arrays = [("unsigned char", "variable[nodes]", [node.variable for node in nodes]), (place, "high[nodes]", [places[node.high] for node in nodes]),
+              (place, "low[nodes]", [places[node.low] for node in nodes])] if nodes else []
+    arrays += [(place, "row[states]", [places[rows[state]] for state in rows]), ("unsigned char", "accept[states]", [int(accept[state]) for state in rows])]
+    texts = [f"static const {integer} {head} = {{\n" + "".join(f"  {number},\n" for number in numbers) + "};\n\n" for integer, head, numbers in arrays]
+    loop = "while (at >= states) at = letter[variable[at - states]] ? high[at - states] : low[at - states];"
+    body = ["int letter[variables];"] * bool(nodes) + [f"{place} at;\n"] + [f"letter[{slot}] = v_{name};" for slot, name in enumerate(names) if nodes]
+    body += ["at = row[st];", *[loop] * bool(nodes), "st = at;", "return accept[st];"]
+    return (f"enum {{ states = {states}, nodes = {len(nodes)}, variables = {len(names)} }};\n\n" + "".join(texts)
+            + f"static {place} st;\n\nvoid observer_reset(void)\n{{\n  st = 0;\n}}\n\n"
+            + f"int observer_step({', '.join(f'int v_{name}' for name in names) or 'void'})\n{{\n" + "".join(f"  {line}\n" for line in body) + "}\n")
+
+
 def unit_in_lustre(names: Sequence[str], returned: str, rows: Dict[int, Diagram]) -> str:
     known, inputs = numbered(rows.values()), "; ".join(f"v_{name}: bool" for name in names) or "tick: bool"
     lines = [f"{node} = if v_{names[it.variable]} then {known.get(it.high, it.high)} else {known.get(it.low, it.low)};"

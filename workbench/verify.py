@@ -16,7 +16,7 @@ from diagrams import Automaton, Cannot, Diagram, Letter, Wrong, digits, ends_of,
 from expand import Text
 from forms import Formula
 from language import Fault, Tree
-from printed import Printed, unit_in_c, unit_in_lustre
+from printed import Printed, tables_in_c, unit_in_c, unit_in_lustre
 from program import NO_PROGRAM, Program, Refusal
 
 # ---- the program's answers about a file, of which `ask` asks the program
@@ -108,6 +108,7 @@ class Check:
         self.answered("c", status, unit_in_c("observer", self.names, returned, nx=self.rows))
         returned = " or ".join(f"(nx = {it})" for it in self.rows if self.accept[it]) or "false"
         self.answered("lustre", status, unit_in_lustre(self.names, returned, self.rows))
+        self.answered("tables", status, tables_in_c(self.names, self.accept, self.rows))
 
     def ranks(self, inputs: int) -> Dict[int, Tuple[int, Letter]]:
         """In how many letters the inputs break it from each state, whatever the outputs are; and the least input for it."""
@@ -154,7 +155,7 @@ def add_arguments(parser: argparse.ArgumentParser) -> None:
     parser.add_argument("other", metavar="FILE", nargs="?", help="with --implies the second formula")
     parser.add_argument("--implies", action="store_true", help="checks the answer of implies too, to both files")
     parser.add_argument("--stuck", action="store_true", help="checks the answer of stuck too")
-    parser.add_argument("--observer", action="store_true", help="checks both observers too")
+    parser.add_argument("--observer", action="store_true", help="checks the observers of c, lustre and tables too")
     parser.add_argument("--inputs", type=int, metavar="N", help="checks the answer of synth too, with so many inputs")
 
 
@@ -188,7 +189,7 @@ def verified(options: argparse.Namespace, ask: Ask) -> Iterator[str]:
         yield "the answer to stuck"
     if options.observer:
         checks[0].observers()
-        yield from (f"the observer in {language}, in all its states and for all letters" for language in ("C", "Lustre"))
+        yield from (f"the observer in {language}, in all its states and for all letters" for language in ("C", "Lustre", "tables"))
     if options.inputs is not None:
         yield "the " + checks[0].synth(options.inputs)
 

@@ -235,7 +235,7 @@ class Right(WithFolder):
     def test_the_command(self):
         status, out, err = run("ask", "verify", RESPONSE, "--observer", "--inputs", "1")
         self.assertEqual((status, err), (0, ""))
-        self.assertEqual([line.split()[0] for line in out.splitlines()], ["verified:"] * 7)
+        self.assertEqual([line.split()[0] for line in out.splitlines()], ["verified:"] * 8)
         self.assertIn("5 states", out)
         self.assertIn("the controller", out)
         self.assertIn("the strategy", run("ask", "verify", CROSSING, "--inputs", "1")[1])
