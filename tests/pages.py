@@ -29,7 +29,7 @@ HABITS = [(re.compile(pattern), instead) for pattern, instead in (
     (r"\b([Tt]ell|[Tt]ells|[Tt]old|[Tt]elling)\b", "report, print, return, expose, distinguish"),
     (r"(?<![Tt]here )\b(is|are|was|were) (no|none)\b(?! (\w+er|more)\b)", "is not a"),
     (r"\bby custom\b", "by default"),
-    (r"(?<!nothing )(?<!something )(?<!someone )(?<!anything )(?<!everything )\b[Ee]lse\b", "otherwise"),
+    (r"(?<!nothing )(?<!something )(?<!someone )(?<!anything )(?<!everything )(?<!-)\b[Ee]lse\b", "otherwise"),
     (r"\b[Bb]ehind\b", "after"),
     (r"\b(for|to|of) who\b", "for readers who"),
     (r"\bas (large|long|many|small) as (it|they|there|you) (may|might|can)\b|\bso (many|much|often)\b", "the number, or the limit"),
