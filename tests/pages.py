@@ -1,9 +1,9 @@
 #!/usr/bin/env python3
-"""Checks the pages: habits of writing, sentences and lines, tables, dead links, and shown commands whose output differs. By hand:
+"""Checks the pages: habits of writing, lines, tables, links, names of files, and the output of the commands that they show. By hand:
 
     DCVALID=PROGRAM tests/pages.py [PAGE ..]      every page, or these
 
-A page is README.md, CONTRIBUTING.md, a page of docs/, or the README.md of a crate. In a fence of `console` each line after `$ ` is run, and what it writes is
+A page is README.md, CONTRIBUTING.md, a page of docs/, or the README.md of a crate. In a fence of `console` each line after `$ ` is run, and its output is
 compared with the lines below it, of which `..` stands for any number; in a fence of `sh` each command has to end with 0 or 1. The commands of a page run in one
 folder, with DCVALID, or the built program, as ./dcvalid. Fences of other kinds are not run: `text`, `c`, and `bash` for commands that prove or install. Without
 names it also checks the sections of pages that other texts name, and that each crate has a page. Status 1 if anything is listed.
@@ -41,8 +41,6 @@ HABITS = [(re.compile(pattern), instead) for pattern, instead in (
     (r"^Of (an?|the|any|two|such) [^,]* that ", "For"),
     (r"\b[Nn]or is it that\b|\b[Nn]ever are both\b", "a plain sentence"),
     (r"\bwords (that )?are taken\b|\barguments which are taken\b", "valid arguments"),
-    (r"\bissue #?\d+\b|\bthe papers\b", "nothing: the repository has neither"),
-    (r"\bto the (instruction|state)s? that it\b", "a plain noun"),
 )]
 
 ABBREVIATION = re.compile(r"(?:\b[A-Z]|\be\.g|\bi\.e|\.\.)\.$|\.\.$")
@@ -55,7 +53,7 @@ def pages(names: List[str]) -> List[Path]:
 
 
 def without_fences(text: str) -> List[Line]:
-    """The numbered lines that stand in no fence."""
+    """The numbered lines outside all fences."""
     lines, inside = [], False
     for number, line in enumerate(text.split("\n"), 1):
         if re.match(r"\s*```", line):
