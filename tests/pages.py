@@ -1,11 +1,12 @@
 #!/usr/bin/env python3
-"""Checks the pages: habits of writing, sentences and lines, tables, dead links, and shown commands whose output differs. By hand:
+"""Checks the pages: habits of writing, lines, tables, links, names of files, and the output of the commands that they show. By hand:
 
     DCVALID=PROGRAM tests/pages.py [PAGE ..]      every page, or these
 
-A page is README.md, CONTRIBUTING.md, a page of docs/, or the README.md of a crate. In a fence of `console` each line after `$ ` is run, and what it writes is
+A page is README.md, CONTRIBUTING.md, a page of docs/, or the README.md of a crate. In a fence of `console` each line after `$ ` is run, and its output is
 compared with the lines below it, of which `..` stands for any number; in a fence of `sh` each command has to end with 0 or 1. The commands of a page run in one
-folder, with DCVALID, or the built program, as ./dcvalid. Fences of other kinds (`bash`, `text`, `c`) are not run. Status 1 if anything is listed.
+folder, with DCVALID, or the built program, as ./dcvalid. Fences of other kinds are not run: `text`, `c`, and `bash` for commands that prove or install. Without
+names it also checks the sections of pages that other texts name, and that each crate has a page. Status 1 if anything is listed.
 """
 import os
 import re
@@ -29,7 +30,7 @@ HABITS = [(re.compile(pattern), instead) for pattern, instead in (
     (r"\b([Tt]ell|[Tt]ells|[Tt]old|[Tt]elling)\b", "report, print, return, expose, distinguish"),
     (r"(?<![Tt]here )\b(is|are|was|were) (no|none)\b(?! (\w+er|more)\b)", "is not a"),
     (r"\bby custom\b", "by default"),
-    (r"(?<!nothing )(?<!something )(?<!someone )(?<!anything )(?<!everything )\b[Ee]lse\b", "otherwise"),
+    (r"(?<!nothing )(?<!something )(?<!someone )(?<!anything )(?<!everything )(?<!-)\b[Ee]lse\b", "otherwise"),
     (r"\b[Bb]ehind\b", "after"),
     (r"\b(for|to|of) who\b", "for readers who"),
     (r"\bas (large|long|many|small) as (it|they|there|you) (may|might|can)\b|\bso (many|much|often)\b", "the number, or the limit"),
@@ -40,8 +41,6 @@ HABITS = [(re.compile(pattern), instead) for pattern, instead in (
     (r"^Of (an?|the|any|two|such) [^,]* that ", "For"),
     (r"\b[Nn]or is it that\b|\b[Nn]ever are both\b", "a plain sentence"),
     (r"\bwords (that )?are taken\b|\barguments which are taken\b", "valid arguments"),
-    (r"\bissue #?\d+\b|\bthe papers\b", "nothing: the repository has neither"),
-    (r"\bto the (instruction|state)s? that it\b", "a plain noun"),
 )]
 
 ABBREVIATION = re.compile(r"(?:\b[A-Z]|\be\.g|\bi\.e|\.\.)\.$|\.\.$")
@@ -54,7 +53,7 @@ def pages(names: List[str]) -> List[Path]:
 
 
 def without_fences(text: str) -> List[Line]:
-    """The numbered lines that stand in no fence."""
+    """The numbered lines outside all fences."""
     lines, inside = [], False
     for number, line in enumerate(text.split("\n"), 1):
         if re.match(r"\s*```", line):
@@ -145,7 +144,7 @@ def links(page: Path, lines: List[Line]) -> Iterator[Line]:
                 yield number, f"{name or page.name} has no section {part}"
 
 
-def sections(path: str, text: str) -> Iterator[Line]:
+def sections(text: str) -> Iterator[Line]:
     """Sections that a text names after a page, as `docs/LANGUAGE.md, "The budget"`."""
     for found in re.finditer(r"(\w+\.md)[`\])]*(?:\([^)]*\))?,((?: (?:and )?\"[^\"\n]+\",?)+)", text):
         page = ROOT / "docs" / found.group(1) if (ROOT / "docs" / found.group(1)).exists() else ROOT / found.group(1)
@@ -159,7 +158,7 @@ def paths(lines: List[Line]) -> Iterator[Line]:
     """Files and folders between backticks that are nowhere."""
     for number, line in lines:
         for name in re.findall(r"`((?:docs|tests|bench|crates|examples|patterns|workbench|dcv_\w+)/[\w./-]*)", line):
-            name = name.rstrip(".").removesuffix("/")
+            name = name.rstrip("./")
             if re.search(r"NAME|MODULE|\bdcv_x\b|\.\.|_$|/out\b", name):
                 continue
             bare = ROOT / name if (ROOT / name.split("/")[0]).exists() else ROOT / "crates" / name
@@ -257,6 +256,16 @@ def commands(text: str) -> Iterator[Line]:
         shutil.rmtree(room)
 
 
+def crates() -> Iterator[str]:
+    """Crates without a page, or without a line in the list of all."""
+    listed = (ROOT / "docs/CRATES.md").read_text(encoding="utf-8")
+    for folder in sorted(path for path in ROOT.glob("crates/*") if path.is_dir()):
+        if not (folder / "README.md").exists():
+            yield f"crates/{folder.name}: there is no README.md"
+        if f"[`{folder.name}`]" not in listed:
+            yield f"docs/CRATES.md: {folder.name} is left out"
+
+
 def look_at(page: Path) -> Iterator[Line]:
     text = page.read_text(encoding="utf-8")
     lines = without_fences(text)
@@ -265,7 +274,7 @@ def look_at(page: Path) -> Iterator[Line]:
     for check in (habits, whats, broken_lines, tables, paths):
         yield from check(lines)
     yield from links(page, lines)
-    yield from sections(page.name, text)
+    yield from sections(text)
     yield from commands(text)
 
 
@@ -276,17 +285,12 @@ def other_texts() -> List[Path]:
 
 
 def main(names: List[str]) -> int:
-    listed = 0
-    for page in pages(names):
-        for number, text in sorted(look_at(page)):
-            listed += 1
-            print(f"{os.path.relpath(page, ROOT)}:{number}: {text}")
-    for path in [] if names else other_texts():
-        for number, text in sections(path.name, path.read_text(encoding="utf-8", errors="replace")):
-            listed += 1
-            print(f"{os.path.relpath(path, ROOT)}:{number}: {text}")
-    print(f"{len(pages(names))} pages: " + (f"{listed} places" if listed else "nothing to list"))
-    return 1 if listed else 0
+    found = [f"{os.path.relpath(page, ROOT)}:{number}: {text}" for page in pages(names) for number, text in sorted(look_at(page))]
+    if not names:
+        found += [f"{os.path.relpath(path, ROOT)}:{number}: {text}" for path in other_texts() for number, text in sections(path.read_text(encoding="utf-8", errors="replace"))]
+        found += crates()
+    print("\n".join(found + [f"{len(pages(names))} pages: " + (f"{len(found)} places" if found else "nothing to list")]))
+    return 1 if found else 0
 
 
 if __name__ == "__main__":

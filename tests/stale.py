@@ -1,7 +1,7 @@
 #!/usr/bin/env python3
 """What stands in the repository and serves nothing. By hand: tests/stale.py
 
-It lists names between backticks in README.md and docs/ that stand nowhere else in the repository, lemmas that nothing cites, and functions of
+It lists names between backticks in the pages (README.md, CONTRIBUTING.md, docs/, crates/*/README.md) that are nowhere else in the repository, lemmas that nothing cites, and functions of
 libraries that no library calls. It goes by words, so it passes over what shares its name with something in use. Status 1 if it lists anything.
 """
 import os
@@ -35,7 +35,7 @@ def texts(pattern):
 
 def stale_names(everything):
     """Words between backticks in the documents that no other file has, and that are no part of a path."""
-    documents = {path: text for path, text in everything.items() if path == "README.md" or path.startswith("docs/")}
+    documents = {path: text for path, text in everything.items() if re.fullmatch(r"(crates/\w+/)?README\.md|CONTRIBUTING\.md|docs/.*", path)}
     known = {word for path, text in everything.items() if path not in documents and path != "tests/stale.py" for word in NAME.findall(text)} | ELSEWHERE
     known |= {part for path in everything for name in path.split("/") for part in (name, os.path.splitext(name)[0])}
     for path, text in documents.items():
