@@ -1,5 +1,6 @@
 -- what the clauses of public calls cite
 pub mod Asked
+pub mod Called
 pub mod Disk
 pub mod Faults
 pub mod FilesState

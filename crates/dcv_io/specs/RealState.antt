@@ -11,8 +11,8 @@ pub record RealState (S F : Type 0) : Type 0 where
   pub calls : ℕ
 
 -- what is held, and what the open file has left, where the file system tells what it holds
-abbrev pub told_of : {S F : Type 0} → (S → Option (List ℕ → Option (List ℕ))) → (F → Option (List ℕ)) → RealState S F → Option Disk
-told_of held remaining files = option_map (λ names. record { held = names; «open» = option_and_then remaining files.file }) (held files.system)
+abbrev pub told_of : {S F : Type 0} → (S → Option (List ℕ → Option (List ℕ))) → (S → F → Option (List ℕ)) → RealState S F → Option Disk
+told_of held remaining files = option_map (λ names. record { held = names; «open» = option_and_then (remaining files.system) files.file }) (held files.system)
 
 -- what was written, where the stream tells it; how many writes have failed, and whether the last one did
 pub record StreamState : Type 0 where

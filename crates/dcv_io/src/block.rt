@@ -5,7 +5,7 @@ ghost use Rattle.dcv_io.specs.Putting.{Puts, block_put};
 use crate::held::Held;
 use crate::{Failed, Sink, Target, write_all};
 
-/// A block in front of a sink: what is put waits in it until it is full, and is then written. It takes no memory.
+/// A block in front of a sink: pieces are collected in it until it is full, and are then written. It allocates nothing.
 ///
 /// Once a write has failed nothing more is written.
 #[derive(Drop)]
@@ -32,7 +32,7 @@ impl<'a, S: Sink> Block<'a, S> {
         }
     }
 
-    /// Writes what waits, and answers whether all that was put was written.
+    /// Writes the rest, and returns whether every piece was written.
     pub fn finish(&mut self) -> Result<(), Failed>
         ensures puts { Puts
             (block_put S.written S.faults S.last_failed self.old.sink self.old.held self.old.failed)

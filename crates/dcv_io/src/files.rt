@@ -8,8 +8,8 @@ use crate::Failed;
 
 /// Files that are read by name. One is open at a time.
 ///
-/// An object may tell its disk, and then the clauses say which bytes come; or tell nothing of bytes, as the real
-/// files do. It may tell the names that it was asked for, or fall silent about them. It always counts its failed opens and its failed reads.
+/// An object may expose its disk to specifications, and then the clauses say which bytes a read returns; or no bytes, as the real
+/// files do. It may expose the names that it was asked for, and stop doing so. It always counts its failed opens and its failed reads.
 pub trait Files {
     /// How many calls of `open_file` have failed, up to 2^64 - 1.
     ghost open_faults: { Self → ℕ };
@@ -38,7 +38,7 @@ pub trait Files {
             (open_faults self.old) (open_faults self.new) }
         ensures read_faults { read_faults self.new ≡ read_faults self.old };
 
-    /// Reads the next bytes of the open file into the front of the buffer, and answers how many.
+    /// Reads the next bytes of the open file into the front of the buffer, and returns how many.
     /// With no file open it fails.
     fn read(&mut self, buf: &mut [u8]) -> Result<usize, Failed>
         ensures bound { IfOk result (λ count. count ≤ length buf.old) }

@@ -52,7 +52,7 @@ impl Held {
         self.filled == BLOCK
     }
 
-    // Takes as many of the bytes as there is room for, and answers how many.
+    // Takes as many of the bytes as there is room for, and returns how many.
     pub(crate) fn fill(&mut self, bytes: &[u8]) -> usize
         ensures taken { self.new ≡ self.old ++ take result bytes.now }
         ensures count { result ≤ length bytes.now }
@@ -64,7 +64,7 @@ impl Held {
     }
 }
 
-// Copies as many bytes as both have, and answers how many.
+// Copies as many bytes as both have, and returns how many.
 fn copy_prefix(from: &[u8], to: &mut [u8]) -> usize
     ensures count { result ≡ min (length from.now) (length to.old) }
     ensures copied { to.new ≡ take result from.now ++ drop result to.old }

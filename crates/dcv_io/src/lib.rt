@@ -1,6 +1,6 @@
 //! Where the bytes of a run come from and go to: traits for what is outside, calls that read a whole file and
-//! write a whole piece, two fakes in memory that tell what they hold, files that note the names that they were
-//! asked for, and the real files and streams.
+//! write a whole piece, two fakes in memory that expose their state, files that note the names that they were
+//! asked for, and the real files and streams, with twins of these over fakes.
 //!
 //! ```text
 //! let bytes = read_all(rt.alloc(), &mut RealFiles::new(&rt), "formula.txt", 262_144)?;
@@ -25,6 +25,7 @@ mod schedule;
 mod sink;
 mod target;
 mod text;
+mod twins;
 mod writing;
 
 pub use block::Block;
@@ -41,4 +42,5 @@ pub use real_out::{RealOut, Stream};
 pub use sink::Sink;
 pub use target::Target;
 pub use text::Text;
+pub use twins::{TwinFile, TwinFiles, TwinStream};
 pub use writing::write_all;

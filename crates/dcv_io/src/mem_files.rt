@@ -10,7 +10,7 @@ use crate::{Failed, Files};
 use std::alloc::{AllocError, Global};
 use std::marker::Model;
 
-/// Files in memory, which tell everything but the names that they were asked for. They stand in for the real ones in tests.
+/// Files in memory, which expose everything but the names that they were asked for. Tests use them in place of the real ones.
 #[derive(Drop)]
 pub struct MemFiles {
     // where copies of files are allocated

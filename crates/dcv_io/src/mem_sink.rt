@@ -10,7 +10,7 @@ use crate::{Failed, Sink};
 use std::alloc::{AllocError, Global};
 use std::marker::Model;
 
-/// A sink in memory, which tells everything. It stands in for a real one in tests.
+/// A sink in memory, which exposes everything. Tests use it in place of a real one.
 #[derive(Drop)]
 pub struct MemSink {
     // what was written

@@ -7,7 +7,7 @@ use std::alloc::{AllocError, Global};
 use std::marker::Model;
 
 /// Files that note the names by which they are asked for, as long as memory lasts. Once it ran out for a name, they
-/// tell no names any more.
+/// expose no names any more.
 #[derive(Drop)]
 pub struct NotingFiles<F: Files> {
     // where names are kept

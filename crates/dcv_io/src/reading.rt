@@ -106,7 +106,7 @@ fn read_to_end<F: Files>(alloc: Global, files: &mut F, limit: u64) -> Result<Vec
     Err(TakeFault::TooLong { limit })
 }
 
-// Reads once, adds what came, and answers how many bytes that is.
+// Reads once, adds the bytes that were read, and returns how many there are.
 fn read_block<F: Files>(
     files: &mut F,
     buffer: &mut [u8],

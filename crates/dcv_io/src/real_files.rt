@@ -1,19 +1,20 @@
 // The files of a file system, read one at a time, with their faults counted.
-ghost use Rattle.std.specs.Prelude.{◌≡◌, ◌≤◌, None, length, drop, IfOk, OnErr};
+ghost use Rattle.std.specs.Prelude.{◌≡◌, ◌≤◌, None, length, drop, is_err, is_some, option_and_then, IfOk, IsSome, OnErr, OnOk};
 ghost use Rattle.std.specs.Io.KnownBytes.{ReadConsumes};
+ghost use Rattle.dcv_io.specs.Called.{WhereCounted, ReadsAs, counted};
 ghost use Rattle.dcv_io.specs.RealState.{told_of};
 
 use crate::counts::raise;
 use crate::file_system::{FileSystem, SystemFiles};
 use crate::{Failed, Files};
-use std::io::Read;
 use std::marker::Model;
 use std::rt;
 
 // How many bytes are read at once.
 const BLOCK: usize = 4096;
 
-/// The files of a file system. What is read of a file is what it holds, wherever the file system tells that.
+/// The files of a file system. Reads return the contents of the open file, wherever the file system exposes these. Names and counts are those of
+/// the file system's own calls, wherever it exposes them.
 ///
 /// A read that a signal interrupts has failed.
 #[derive(Drop)]
@@ -38,8 +39,8 @@ impl<S: FileSystem> Model for RealFiles<S> {
 
     ghost view = { λ f. record { system = f.system; file = f.file; open_faults = f.open_faults; read_faults = f.read_faults; calls = f.calls } };
 
-    // An open file of a file system that tells what it holds tells what is left to read.
-    ghost invariant = { λ f. IfSome (S.held f.system) (λ _. IfSome f.file (λ file. IsSome (S.File.remaining file))) };
+    // An open file of a file system that exposes its contents exposes the rest of them.
+    ghost invariant = { λ f. IfSome (S.held f.system) (λ _. IfSome f.file (λ file. IsSome (S.remaining f.system file))) };
 }
 
 impl<R: rt::Files> RealFiles<SystemFiles<R>> {
@@ -70,15 +71,15 @@ impl<S: FileSystem> RealFiles<S> {
 }
 
 impl<S: FileSystem> Files for RealFiles<S> {
-    ghost open_faults = { λ f. f.open_faults };
+    ghost open_faults = { λ f. counted (λ counts. counts.failed_opens) (S.counts f.system) f.open_faults };
 
-    ghost read_faults = { λ f. f.read_faults };
+    ghost read_faults = { λ f. counted (λ counts. counts.failed_reads) (S.counts f.system) f.read_faults };
 
-    ghost calls = { λ f. f.calls };
+    ghost calls = { λ f. counted (λ counts. counts.calls) (S.counts f.system) f.calls };
 
-    ghost told = { told_of S.held S.File.remaining };
+    ghost told = { told_of S.held S.remaining };
 
-    ghost asked = { λ _. None };
+    ghost asked = { λ f. S.asked f.system };
 
     fn open_file(&mut self, name: &str) -> Result<(), Failed> {
         raise(&mut self.calls);
@@ -97,30 +98,37 @@ impl<S: FileSystem> Files for RealFiles<S> {
 
     fn read(&mut self, buf: &mut [u8]) -> Result<usize, Failed> {
         raise(&mut self.calls);
-        if let Some(file) = &mut self.file
-            && let Ok(count) = read_once(file, buf)
-        {
-            return Ok(count);
+        let taken = read_once(&mut self.system, &mut self.file, buf);
+        if taken.is_err() {
+            raise(&mut self.read_faults);
         }
-        raise(&mut self.read_faults);
-        Err(Failed)
+        taken
     }
 }
 
-// Reads once, whatever it is read from. The buffer stays as it was but for what came.
-fn read_once<T: Read>(source: &mut T, buf: &mut [u8]) -> Result<usize, Failed>
+// Reads once. The buffer stays as it was but for what came.
+fn read_once<S: FileSystem>(
+    system: &mut S,
+    file: &mut Option<S::File>,
+    buf: &mut [u8],
+) -> Result<usize, Failed>
     ensures bound { IfOk result (λ count. count ≤ length buf.old) }
-    ensures bytes { ReadConsumes (T.remaining source.old) (T.remaining source.new) result buf.new }
+    ensures open { is_some file.new ≡ is_some file.old }
+    ensures some { OnOk result (IsSome file.old) }
+    ensures bytes { ReadConsumes (option_and_then (S.remaining system.old) file.old) (option_and_then (S.remaining system.new) file.new) result buf.new }
     ensures buffer { IfOk result (λ count. drop count buf.new ≡ drop count buf.old) }
     ensures same_buffer { OnErr result (buf.new ≡ buf.old) }
+    ensures held { S.held system.new ≡ S.held system.old }
+    ensures asked { S.asked system.new ≡ S.asked system.old }
+    ensures counts { WhereCounted (ReadsAs (is_err result)) (S.counts system.old) (S.counts system.new) }
 {
     let mut block = [0; BLOCK];
     let room = buf.len().min(BLOCK);
-    match source.read(&mut block[..room]) {
+    match system.read(file, &mut block[..room]) {
         Ok(count) => {
             buf[..count].copy_from_slice(&block[..count]);
             Ok(count)
         }
-        Err(_) => Err(Failed),
+        Err(fault) => Err(fault),
     }
 }

@@ -1,6 +1,8 @@
 // The streams that are written to, with their faults counted.
-ghost use Rattle.std.specs.Prelude.{◌≡◌, ◌<◌, ◌≤◌, Bool, false, None, length, IfOk, IsTrue, IsSome, if◌then◌else◌};
+ghost use Rattle.std.specs.Prelude.{◌≡◌, ◌<◌, ◌≤◌, ℕ, false, List, Option, None, length, take, is_err, IfOk, OnErr};
 ghost use Rattle.std.specs.Io.KnownBytes.{WriteAppends};
+ghost use Rattle.dcv_io.specs.Called.{FailsAs, WhereCounted, counted};
+ghost use Rattle.dcv_io.specs.Written.{Appends};
 
 use crate::counts::raise;
 use crate::{Failed, Sink};
@@ -9,34 +11,54 @@ use std::io::Write;
 use std::marker::Model;
 use std::rt::{Stderr, Stdout};
 
-/// What bytes are written to: a stream of the process, or a twin of it that tells what it holds.
-pub trait Stream: Write + Drop {
-    /// Whether it tells what was written.
-    ghost tells: { Bool };
+/// A stream that bytes are written to: one of the process, or a twin of it that exposes its contents and the number of its failures.
+pub trait Stream: Drop {
+    /// All the bytes that it has taken; None claims nothing.
+    ghost written: { Self → Option (List ℕ) };
 
-    /// Where it tells, it does so at all times.
-    ghost told: { (stream : Self) → IsTrue Self.tells → IsSome (Self.Write.contents stream) };
+    /// How many writes have failed; None claims nothing.
+    ghost failures: { Self → Option ℕ };
+
+    /// Writes once, and returns how many bytes were taken. A write that takes none of some bytes has failed.
+    fn write_once(&mut self, bytes: &[u8]) -> Result<usize, Failed>
+        ensures bound { IfOk result (λ count. count ≤ length bytes.now) }
+        ensures progress { IfOk result (λ count. 0 < length bytes.now → 0 < count) }
+        ensures taken { IfOk result (λ count. Appends (written self.old) (written self.new) (take count bytes.now)) }
+        ensures stays { OnErr result (written self.new ≡ written self.old) }
+        ensures failures { WhereCounted (FailsAs (is_err result)) (failures self.old) (failures self.new) };
 }
 
 impl Stream for Stdout {
-    ghost tells = { false };
+    ghost written = { λ _. None };
 
-    ghost told = { λ _ never. never };
+    ghost failures = { λ _. None };
+
+    fn write_once(&mut self, bytes: &[u8]) -> Result<usize, Failed> {
+        taken(self, bytes)
+    }
 }
 
 impl Stream for File {
-    ghost tells = { false };
+    ghost written = { λ _. None };
 
-    ghost told = { λ _ never. never };
+    ghost failures = { λ _. None };
+
+    fn write_once(&mut self, bytes: &[u8]) -> Result<usize, Failed> {
+        taken(self, bytes)
+    }
 }
 
 impl Stream for Stderr {
-    ghost tells = { false };
+    ghost written = { λ _. None };
 
-    ghost told = { λ _ never. never };
+    ghost failures = { λ _. None };
+
+    fn write_once(&mut self, bytes: &[u8]) -> Result<usize, Failed> {
+        taken(self, bytes)
+    }
 }
 
-/// A stream. Nothing is kept back: what a write has taken is written.
+/// A stream, whose failures are counted: by the stream itself, wherever it exposes their number. Nothing is kept back.
 #[derive(Drop)]
 pub struct RealOut<W: Stream> {
     // where the bytes go
@@ -48,12 +70,16 @@ pub struct RealOut<W: Stream> {
 }
 
 impl<W: Stream> Model for RealOut<W> {
-    ghost use Rattle.std.specs.Prelude.{None, if◌then◌else◌};
     ghost use Rattle.dcv_io.specs.RealState.{StreamState};
+    ghost use Rattle.dcv_io.specs.Called.{counted};
 
     ghost Value = { StreamState };
 
-    ghost view = { λ o. record { written = if W.tells then W.contents o.stream else None; faults = o.faults; last_failed = o.last_failed } };
+    ghost view = { λ o. record {
+      written = W.written o.stream;
+      faults = counted (λ n. n) (W.failures o.stream) o.faults;
+      last_failed = o.last_failed;
+    } };
 }
 
 impl RealOut<Stdout> {
@@ -77,7 +103,7 @@ impl RealOut<Stderr> {
 impl<W: Stream> RealOut<W> {
     /// This stream, with no fault counted.
     pub fn of(stream: W) -> Self
-        ensures { result ≡ record { written = if W.tells then W.contents stream else None; faults = 0; last_failed = false } }
+        ensures { result ≡ record { written = W.written stream; faults = counted (λ n. n) (W.failures stream) 0; last_failed = false } }
     {
         RealOut {
             stream,
@@ -95,7 +121,7 @@ impl<W: Stream> Sink for RealOut<W> {
     ghost written = { λ o. o.written };
 
     fn write(&mut self, bytes: &[u8]) -> Result<usize, Failed> {
-        let taken = write_once(&mut self.stream, bytes);
+        let taken = self.stream.write_once(bytes);
         self.last_failed = taken.is_err();
         if self.last_failed {
             raise(&mut self.faults);
@@ -105,7 +131,7 @@ impl<W: Stream> Sink for RealOut<W> {
 }
 
 // Writes once, whatever it is written to. A write that takes none of some bytes has failed.
-fn write_once<T: Write>(target: &mut T, bytes: &[u8]) -> Result<usize, Failed>
+fn taken<T: Write>(target: &mut T, bytes: &[u8]) -> Result<usize, Failed>
     ensures bound { IfOk result (λ count. count ≤ length bytes.now) }
     ensures progress { IfOk result (λ count. 0 < length bytes.now → 0 < count) }
     ensures bytes { WriteAppends (T.contents target.old) (T.contents target.new) result bytes.now }

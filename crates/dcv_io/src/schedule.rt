@@ -49,7 +49,7 @@ impl Schedule {
         })
     }
 
-    // Counts a call, and tells whether it is one of those that fail.
+    // Counts a call, and returns whether it is one of those that fail.
     pub fn begin_call(&mut self) -> bool
         ensures fails { result ≡ fails_next self.old }
         ensures counted { self.new ≡ after_call self.old }

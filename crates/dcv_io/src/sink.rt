@@ -7,7 +7,7 @@ use crate::Failed;
 
 /// A place that bytes are written to, piece by piece.
 ///
-/// A sink may tell what has been written to it, or nothing of that, as the real streams do. It always counts its
+/// A sink may expose all bytes written to it, or none, as the real streams do. It always counts its
 /// failed writes.
 pub trait Sink {
     /// How many calls of `write` have failed, up to 2^64 - 1.
@@ -19,7 +19,7 @@ pub trait Sink {
     /// All the bytes written so far; None claims nothing.
     ghost written: { Self → Option (List ℕ) };
 
-    /// Takes some bytes from the front of the piece, and answers how many: at least one, where there is one.
+    /// Takes some bytes from the front of the piece, and returns how many: at least one, if there is one.
     fn write(&mut self, bytes: &[u8]) -> Result<usize, Failed>
         ensures bound { IfOk result (λ count. count ≤ length bytes.now) }
         ensures progress { IfOk result (λ count. 0 < length bytes.now → 0 < count) }

@@ -4,9 +4,9 @@ ghost use Rattle.dcv_io.specs.Putting.{Put, Puts};
 
 /// What a text is put into, piece by piece.
 ///
-/// A target that has failed takes no more, and tells so at its end. So what puts a text goes on to the end of it.
+/// A target that has failed takes no more, and reports this at its end. So a writer of a text goes on to the end of it.
 pub trait Target {
-    /// How it stands.
+    /// Its state.
     ghost standing: { Self → Put };
 
     /// Puts the bytes after those put before, or nothing where it has failed.

@@ -1,4 +1,4 @@
-use Rattle.std.proofs.Common.{◌∷◌, [], false, refl, subst}
+use Rattle.std.proofs.Common.{◌∷◌, [], subst}
 use Rattle.std.specs.Prelude.{List, ℕ, OnOk, OnErr}
 use Rattle.dcv_io.specs.Written.{Appends, AppendsStrictPrefix}
 use Rattle.dcv_io.proofs.Putting.{puts_written}

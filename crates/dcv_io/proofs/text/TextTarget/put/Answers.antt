@@ -1,6 +1,6 @@
-use Rattle.std.proofs.Common.{◌<◌, length, arith}
+use Rattle.std.proofs.Common.{arith}
 use Rattle.std.proofs.lemmas.Grind.{common_steps}
-use Rattle.dcv_io.proofs.Putting.{puts_more, puts_lost}
+use Rattle.dcv_io.proofs.Putting.{puts_more}
 use Rattle.dcv_io.proofs.text.TextTarget.put.Goals as goal
 
 pub returns-then-not-is_empty : goal.returns-then-not-is_empty
