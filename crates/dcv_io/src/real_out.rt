@@ -113,6 +113,15 @@ impl<W: Stream> RealOut<W> {
     }
 }
 
+impl<W: Stream> RealOut<W> {
+    /// The stream itself.
+    pub fn into_stream(self) -> W
+        ensures { W.written result ≡ self.written }
+    {
+        self.stream
+    }
+}
+
 impl<W: Stream> Sink for RealOut<W> {
     ghost faults = { λ o. o.faults };
 

@@ -86,6 +86,13 @@ impl<S: Sink> TwinStream<S> {
     {
         TwinStream { sink }
     }
+
+    /// The sink itself.
+    pub fn into_sink(self) -> S
+        ensures { result ≡ self.sink }
+    {
+        self.sink
+    }
 }
 
 impl<S: Sink + Drop> Stream for TwinStream<S> {

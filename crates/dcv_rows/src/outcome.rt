@@ -5,7 +5,7 @@ use crate::fault::Fault;
 use crate::pattern::Pattern;
 use crate::row::Row;
 use dcv_cli::program;
-use dcv_io::{MemFiles, MemSink, RealFiles, RealOut};
+use dcv_io::{MemFiles, MemSink, RealFiles, RealOut, TwinFiles, TwinStream};
 use std::alloc::{AllocError, Global};
 use std::fs;
 use std::process::ExitCode;
@@ -24,20 +24,20 @@ pub(crate) struct Outcome {
     pub(crate) err: Vec<u8>,
 }
 
-/// Runs the program over the files of the row in memory.
+/// Runs the program over the files of the row in memory, by the code that reads files and writes streams of the system.
 pub(crate) fn run_in_memory(
     alloc: Global,
     arguments: &[String],
     row: &Row,
 ) -> Result<Outcome, Fault> {
-    let mut files = files_of(alloc, row)?;
-    let mut out = sink(alloc, row.numbers.writes, row.numbers.failing_write)?;
-    let mut err = sink(alloc, None, row.numbers.failing_message)?;
+    let mut files = RealFiles::of(TwinFiles::new(files_of(alloc, row)?));
+    let mut out = stream(alloc, row.numbers.writes, row.numbers.failing_write)?;
+    let mut err = stream(alloc, None, row.numbers.failing_message)?;
     let code = program(alloc, Ok(arguments), &mut files, &mut out, &mut err);
     Ok(Outcome {
         status: number_of(code),
-        out: out.written().to_vec(alloc)?,
-        err: err.written().to_vec(alloc)?,
+        out: written(alloc, out)?,
+        err: written(alloc, err)?,
     })
 }
 
@@ -109,10 +109,20 @@ fn files_of(alloc: Global, row: &Row) -> Result<MemFiles, AllocError> {
     Ok(files)
 }
 
-// A sink that takes at most so many bytes a write, and of which this write fails.
-fn sink(alloc: Global, writes: Option<u64>, failing: Option<u64>) -> Result<MemSink, AllocError> {
+// A stream that takes at most so many bytes a write, and of which this write fails.
+fn stream(
+    alloc: Global,
+    writes: Option<u64>,
+    failing: Option<u64>,
+) -> Result<RealOut<TwinStream<MemSink>>, AllocError> {
     let sizes = sizes(alloc, writes)?;
-    MemSink::new(alloc, ROOM, &sizes, failing.as_slice())
+    let sink = MemSink::new(alloc, ROOM, &sizes, failing.as_slice())?;
+    Ok(RealOut::of(TwinStream::new(sink)))
+}
+
+// What was written to such a stream.
+fn written(alloc: Global, stream: RealOut<TwinStream<MemSink>>) -> Result<Vec<u8>, AllocError> {
+    stream.into_stream().into_sink().written().to_vec(alloc)
 }
 
 // The sizes of the first reads or writes, if they are short.

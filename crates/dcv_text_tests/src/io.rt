@@ -73,6 +73,18 @@ fn real_files_are_read(rt: HostRuntime) -> Result<(), Fail> {
 
 #[test]
 fn real_streams_are_written(rt: HostRuntime) -> Result<(), Fail> {
+    let mut file = RealOut::of(fs::create(&rt, "written.txt")?);
+    let wrote = write_all(&mut file, b"a line, ").and_then(|()| write_all(
+        &mut file,
+        b"and its end\n",
+    ));
+    drop(file);
+    assert_eq!(rt; wrote, Ok(()));
+    assert_eq!(rt;
+        fs::read(&rt, "written.txt")?.as_slice(),
+        b"a line, and its end\n".as_slice()
+    );
+    fs::remove_file(&rt, "written.txt")?;
     write_all(&mut RealOut::output(rt.stdout()), b"to the output\n")?;
     write_all(&mut RealOut::error(rt.stderr()), b"to the error\n")?;
     Ok(())
