@@ -121,7 +121,7 @@ for script in tests/examples.sh tests/stack.sh tests/growth.py tests/observers.p
   # shellcheck disable=SC2086
   (cd "$work" && PATH=$work/bin:$PATH timeout 60 "$clone"/$script) >"$work/err" 2>&1
   expect "$script without a program has failed" 1 "$(($? != 0))"
-  contains "$script" 'dcvalid --build\|dcvalid check'
+  contains "$script" 'dcvalid --build\|dcvalid --prove'
 done
 expect_counts 'before any is needed' 0 0
 
