@@ -28,6 +28,7 @@ install:
 	install -m 644 workbench/c/* '$(TOP)/$(SHARE)/workbench/c'
 	install -m 644 patterns/*.dc '$(TOP)/$(SHARE)/patterns'
 	$(PYTHON) workbench/pages.py man >'$(TOP)/$(MAN)/dcvalid.1'
+	ln -sf dcvalid.1 '$(TOP)/$(MAN)/ask.1'
 	$(PYTHON) workbench/pages.py bash >'$(TOP)/$(COMPLETIONS)/dcvalid'
 	@$(MAKE) --no-print-directory stamp
 
@@ -43,7 +44,7 @@ check-install:
 	  END { print "$(TOP): as it was installed, " version ", " proof }' '$(TOP)/$(SHARE)/VERSION'
 
 uninstall:
-	rm -f '$(TOP)/bin/dcvalid' '$(TOP)/bin/ask' '$(TOP)/$(MAN)/dcvalid.1' '$(TOP)/$(COMPLETIONS)/dcvalid'
+	rm -f '$(TOP)/bin/dcvalid' '$(TOP)/bin/ask' '$(TOP)/$(MAN)/dcvalid.1' '$(TOP)/$(MAN)/ask.1' '$(TOP)/$(COMPLETIONS)/dcvalid'
 	rm -rf '$(TOP)/$(SHARE)'
 
 deb:

@@ -274,5 +274,21 @@ run 0 '' "$clone/dcvalid" --prove
 run 0 '' make_in_clone install
 run 0 "$prefix: as it was installed, dcvalid $(cat "$source/VERSION"), proved" make_in_clone check-install
 
+# A Debian package has the same files. packaging/try installs one in a clean Debian, runs it and removes it, by hand.
+if command -v dpkg-deb >/dev/null; then
+  git -C "$clone" init -q
+  git -C "$clone" -c user.name=tester -c user.email=tester@example.org commit -q --allow-empty -m 'for the package'
+  cp -p "$work/foreign" "$built"
+  run 2 '' make_in_clone deb
+  contains 'a package of a program from elsewhere' 'no program is proved of these sources'
+  make_in_clone deb UNPROVED=1 >/dev/null 2>&1
+  package=$(ls "$clone"/out/dcvalid_"$(cat "$source/VERSION")"~unproved_*.deb)
+  dpkg-deb -x "$package" "$work/unpacked"
+  run 0 "$work/unpacked/usr: as it was installed, dcvalid $(cat "$source/VERSION"), not proved" make_in_clone check-install DESTDIR="$work/unpacked" PREFIX=/usr
+  expect 'the program of the package' '<check>' "$("$work/unpacked/usr/bin/dcvalid" check)"
+  expect 'commands of the workbench of the package' 1 "$(cd "$work" && "$work/unpacked/usr/bin/ask" | grep -c 'explain COMMAND')"
+  if command -v lintian >/dev/null; then expect 'what lintian reports' '' "$(lintian "$package" 2>/dev/null | grep '^[EW]')"; fi
+fi
+
 [ "$failed" -eq 0 ] && echo 'all passed'
 exit "$failed"
