@@ -45,7 +45,10 @@ cat >"$clone/bench/unproved.py" <<END
 echo "unproved \$*" >>"$work/calls"
 mktemp -d >"$work/inner" # in the room, if that is where temporary files go
 [ ! -e "$work/slow" ] || { sleep 300 & echo \$! >"$work/sleeper"; wait; }
-[ ! -e "$work/pause" ] || sleep 1
+for i in {1..600}; do # until two other calls wait
+  [ -e "$work/pause" ] && [ "\$(cat "$work"/at_once_err.? | grep -c 'waiting for')" -lt 2 ] || break
+  sleep 0.1
+done
 [ ! -e "$work/broken" ] || { echo 'it does not compile'; exit 1; }
 printf '#!/usr/bin/env bash\nprintf "<%%s>" "\$@"\n[ "\$1" != fault ] || echo "fault of the program" >&2\nexit 4\n' >"\$2"
 chmod +x "\$2"
@@ -233,7 +236,7 @@ interrupted() {
   shift
   rm -f "$work/sleeper"
   (cd "$work" && PATH=$work/bin:$PATH exec env --default-signal="$signal" "$clone/dcvalid" "$@") 2>/dev/null &
-  for i in {1..100}; do [ ! -s "$work/sleeper" ] || break; sleep 0.1; done
+  for i in {1..600}; do [ ! -s "$work/sleeper" ] || break; sleep 0.1; done
   expect "a room while $* goes on" 1 "$(ls "$TMPDIR" | wc -l)"
   kill -s "$signal" $!
   wait $!
