@@ -46,10 +46,10 @@ def tests() -> List[Test]:
 
 
 def run(test: Test) -> Result:
-    start = time.monotonic()
+    start, environment = time.monotonic(), {**os.environ, "PYTHONPATH": str(ROOT / "workbench")}
     words = [sys.executable, *test.words] if test.words[0] == "-m" else [str(ROOT / test.words[0]), *test.words[1:]]
     try:
-        done = subprocess.run(words, cwd=test.folder, stdin=subprocess.DEVNULL, stdout=subprocess.PIPE, stderr=subprocess.STDOUT, timeout=SECONDS, check=False)
+        done = subprocess.run(words, cwd=test.folder, env=environment, stdin=subprocess.DEVNULL, stdout=subprocess.PIPE, stderr=subprocess.STDOUT, timeout=SECONDS, check=False)
         status, output = done.returncode, done.stdout
     except subprocess.TimeoutExpired as ended:
         status, output = 124, ended.stdout or b""
