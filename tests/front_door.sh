@@ -228,7 +228,7 @@ wait
 rm "$work/pause"
 expect_counts 'by three calls at once' 8 3
 expect 'the answers of three calls at once' "$(printf '<check><f>status 4\n%.0s' 1 2 3)" "$(cat "$work"/at_once.?)"
-expect 'calls that waited' 2 "$(grep -l 'waiting for process [0-9]*, which builds this program' "$work"/at_once_err.? | wc -l)"
+expect 'calls that waited' 2 "$(grep -l 'waiting for another call, which builds this program (unproved)' "$work"/at_once_err.? | wc -l)"
 
 # interrupted SIGNAL WORDS..: a build that hangs is ended by a signal; its processes end, and its room goes.
 interrupted() {
