@@ -5,6 +5,7 @@ PARAMETERS = 8  # of a macro
 OUTPUTS = 8  # variables after the inputs, for a controller
 SLOTS = 32  # declared variables, different prior and next propositions, and quantifiers one inside another
 NUMBER = 9_999
+NAME = 24  # characters
 NESTED = 500  # tokens ( ! <> [] ex all => * - + one inside another, in one definition or in the goal
 FILE_BYTES = 262_144
 GOAL_NODES = 65_536  # of the goal with each macro in the place of its call

@@ -22,6 +22,7 @@ TEXTS = (
     (limits.MACROS, lambda n: "".join(f"define m{k} as pt;" for k in range(n)) + "infer pt;", "many"),
     (limits.PARAMETERS, lambda n: f"define m({names(n)}) as pt; infer pt;", "many"),
     (limits.SLOTS, lambda n: "infer " + "".join(f"ex v{k}. " for k in range(n)) + "pt;", "slots"),
+    (limits.NAME, lambda n: f"var {'v' * n}; infer pt;", "name"),
     (limits.NUMBER, lambda n: f"infer slen <= {n};", "number"),
     (limits.NESTED, lambda n: f"infer {'!' * n}pt;", "nest"),
     (limits.FILE_BYTES, lambda n: "infer pt;".ljust(n), "length"),
