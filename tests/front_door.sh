@@ -50,7 +50,7 @@ for i in {1..600}; do # until two other calls wait
   sleep 0.1
 done
 [ ! -e "$work/broken" ] || { echo 'it does not compile'; exit 1; }
-printf '#!/usr/bin/env bash\nprintf "<%%s>" "\$@"\n[ "\$1" != fault ] || echo "fault of the program" >&2\nexit 4\n' >"\$2"
+printf '#!/usr/bin/env bash\nprintf "<%%s>" "\$@"\nexit 4\n' >"\$2"
 chmod +x "\$2"
 END
 touch "$work/f" "$work/a b.dc"
@@ -137,7 +137,6 @@ contains 'the first call' 'not proved on this machine; ./dcvalid --prove does so
 run 4 '<check><f>' "$clone/dcvalid" --try check f
 expect 'lines of a later call' 1 "$(wc -l <"$work/err")"
 contains 'a later call' 'not proved on this machine'
-run 4 '<fault>' "$built" fault
 run 0 '' "$clone/dcvalid" --build
 run 4 '<>' "$clone/dcvalid"
 run 4 '<--help>' "$clone/dcvalid" --help
@@ -155,7 +154,7 @@ contains 'progress' '4 of .* crates are proved, .* % of the work, some .* minute
 expect 'the crates that are copied' "$(cat "$work/names")" "$(sed -n 's|^crates/\([^/]*\)$|\1|p' "$work/copied")"
 expect 'crates that are not of the program' 0 "$(grep -c '^crates/\(dcv_rows\|dcv_promises\|dcv_[a-z]*_tests\|.*/must-fail\|.*/plants\)' "$work/copied")"
 expect 'the lowest and the highest crate' 2 "$(grep -cx 'dcv_io\|dcvalid' "$work/names")"
-proved=${none/no: nothing is built yet/yes: built of these sources, each crate of which was proved on this machine}
+proved=${none/no: nothing is built yet/yes: built of these sources, each crate of which was proved}
 run 0 "$proved" "$clone/dcvalid" --version
 run 3 '<check><missing>' "$clone/dcvalid" check missing
 expect 'what is said of a proved program' '' "$(cat "$work/err")"
