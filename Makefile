@@ -1,23 +1,54 @@
-# Installs the built program, its man page and its completion: make install PREFIX=/usr/local
+# Installs, packages and tests dcvalid. Nothing is proved here: ./dcvalid --prove does that.
 PREFIX = /usr/local
 DESTDIR =
 PYTHON = python3
+UNPROVED =
 PROGRAM = crates/dcvalid/out/dcvalid
+TOP = $(DESTDIR)$(PREFIX)
+SHARE = share/dcvalid
+MAN = share/man/man1
+COMPLETIONS = share/bash-completion/completions
 
-.PHONY: all install uninstall
+.PHONY: all install stamp check-install uninstall deb test
 
 all:
-	@echo 'make install PREFIX=/usr/local   installs dcvalid, its man page and its completion'
-	@echo 'make uninstall PREFIX=/usr/local removes them'
-	@echo 'The program is proved and built by ./dcvalid, not by make.'
+	@echo 'make install PREFIX=/usr/local        installs the proved program, the workbench, the man page and the completion'
+	@echo 'make install UNPROVED=1              the same with a program that was built without proofs, and records that'
+	@echo 'make check-install PREFIX=/usr/local compares what is installed with its checksums'
+	@echo 'make uninstall PREFIX=/usr/local     removes all of it'
+	@echo 'make deb [UNPROVED=1]                makes a Debian package of the same files, in out/'
+	@echo 'make test                            runs the tests that the gate does not run'
 
 install:
-	@test -x $(PROGRAM) || { echo 'make: the program is not built: there is no $(PROGRAM). ./dcvalid proves and builds it first.' >&2; exit 1; }
-	mkdir -p '$(DESTDIR)$(PREFIX)/bin' '$(DESTDIR)$(PREFIX)/share/man/man1' '$(DESTDIR)$(PREFIX)/share/bash-completion/completions'
-	install -m 755 $(PROGRAM) '$(DESTDIR)$(PREFIX)/bin/dcvalid'
-	$(PYTHON) workbench/pages.py man >'$(DESTDIR)$(PREFIX)/share/man/man1/dcvalid.1'
-	$(PYTHON) workbench/pages.py bash >'$(DESTDIR)$(PREFIX)/share/bash-completion/completions/dcvalid'
+	@./dcvalid $(if $(UNPROVED),,--require-proof) --build
+	install -d '$(TOP)/bin' '$(TOP)/$(MAN)' '$(TOP)/$(COMPLETIONS)' '$(TOP)/$(SHARE)/workbench/c' '$(TOP)/$(SHARE)/patterns'
+	install -m 755 $(PROGRAM) packaging/ask '$(TOP)/bin'
+	install -m 755 ask '$(TOP)/$(SHARE)'
+	install -m 644 workbench/*.py '$(TOP)/$(SHARE)/workbench'
+	install -m 644 workbench/c/* '$(TOP)/$(SHARE)/workbench/c'
+	install -m 644 patterns/*.dc '$(TOP)/$(SHARE)/patterns'
+	$(PYTHON) workbench/pages.py man >'$(TOP)/$(MAN)/dcvalid.1'
+	ln -sf dcvalid.1 '$(TOP)/$(MAN)/ask.1'
+	$(PYTHON) workbench/pages.py bash >'$(TOP)/$(COMPLETIONS)/dcvalid'
+	@$(MAKE) --no-print-directory stamp
+
+# Writes what is installed: version, revision, kit, whether it is proved, and a checksum of each file.
+stamp:
+	./dcvalid --version >'$(TOP)/$(SHARE)/VERSION'
+	cd '$(TOP)' && find bin/dcvalid bin/ask $(MAN)/dcvalid.1* $(COMPLETIONS)/dcvalid $(SHARE) -name __pycache__ -prune -o -type f ! -path $(SHARE)/VERSION -print0 \
+	  | LC_ALL=C sort -z | xargs -0 sha256sum >>$(SHARE)/VERSION
+
+check-install:
+	@cd '$(TOP)' && sed -n '/^[0-9a-f]\{64\}  /p' $(SHARE)/VERSION | sha256sum --check --quiet >&2
+	@awk '/^dcvalid / { version = $$0 } /^proved: / { proof = $$2 == "yes:" ? "proved" : "not proved" } \
+	  END { print "$(TOP): as it was installed, " version ", " proof }' '$(TOP)/$(SHARE)/VERSION'
 
 uninstall:
-	rm -f '$(DESTDIR)$(PREFIX)/bin/dcvalid' '$(DESTDIR)$(PREFIX)/share/man/man1/dcvalid.1'
-	rm -f '$(DESTDIR)$(PREFIX)/share/bash-completion/completions/dcvalid'
+	rm -f '$(TOP)/bin/dcvalid' '$(TOP)/bin/ask' '$(TOP)/$(MAN)/dcvalid.1' '$(TOP)/$(MAN)/ask.1' '$(TOP)/$(COMPLETIONS)/dcvalid'
+	rm -rf '$(TOP)/$(SHARE)'
+
+deb:
+	@packaging/deb '$(UNPROVED)'
+
+test:
+	@tests/all.py

@@ -57,8 +57,8 @@
 # A count that is written out as positions, as bench/to_mona.py does, is no fair question for MONA: `product 50` took it 28 s and 334 MB.
 set -euo pipefail
 here=$(cd "$(dirname "$(readlink -f "${BASH_SOURCE[0]}")")" && pwd)
-program=$here/../crates/dcvalid/out/dcvalid
-[ -x "$program" ] || { echo "build the program first: ./dcvalid check examples/always.dc" >&2; exit 1; }
+program=${PROGRAM:-$here/../crates/dcvalid/out/dcvalid}
+[ -n "${PROGRAM-}" ] || "$here/../dcvalid" --require-proof --build || exit 
 files=$(mktemp -d)
 trap 'rm -rf "$files"' EXIT
 

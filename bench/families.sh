@@ -66,7 +66,7 @@
 set -euo pipefail
 here=$(cd "$(dirname "$(readlink -f "${BASH_SOURCE[0]}")")" && pwd)
 program=${PROGRAM:-$here/../crates/dcvalid/out/dcvalid}
-[ -x "$program" ] || { echo "build the program first: ./dcvalid check examples/always.dc" >&2; exit 1; }
+[ -n "${PROGRAM-}" ] || "$here/../dcvalid" --require-proof --build || exit 
 files=$(mktemp -d)
 trap 'rm -rf "$files"' EXIT
 python3 "$here/families.py" "$files"

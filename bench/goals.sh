@@ -20,8 +20,8 @@
 #   refused     7096 bytes     2.131 ms  fault size at 7090
 set -euo pipefail
 here=$(cd "$(dirname "$(readlink -f "${BASH_SOURCE[0]}")")" && pwd)
-program=$here/../crates/dcvalid/out/dcvalid
-[ -x "$program" ] || { echo "build the program first: ./dcvalid check examples/always.dc" >&2; exit 1; }
+program=${PROGRAM:-$here/../crates/dcvalid/out/dcvalid}
+[ -n "${PROGRAM-}" ] || "$here/../dcvalid" --require-proof --build || exit 
 files=$(mktemp -d)
 trap 'rm -rf "$files"' EXIT
 

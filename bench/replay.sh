@@ -23,7 +23,7 @@
 set -euo pipefail
 here=$(cd "$(dirname "$(readlink -f "${BASH_SOURCE[0]}")")" && pwd)
 program=${PROGRAM:-$here/../crates/dcvalid/out/dcvalid}
-[ -x "$program" ] || { echo "build the program first: ./dcvalid check examples/always.dc" >&2; exit 1; }
+[ -n "${PROGRAM-}" ] || "$here/../dcvalid" --require-proof --build || exit 
 folder=$(mktemp -d)
 trap 'rm -rf "$folder"' EXIT
 

@@ -1,5 +1,6 @@
 #!/usr/bin/env python3
-"""Checks that every text that lists the commands of dcvalid lists those of the table in crates/dcv_command/src/program.rt.
+"""Checks that every text that lists the commands of dcvalid lists those of the table in crates/dcv_command/src/program.rt, and that no page names a cost
+that is more than a tenth away from the figures of tests/gate_costs.py.
 
     tests/commands.py
 
@@ -13,6 +14,7 @@ import sys
 ROOT = os.path.dirname(os.path.dirname(os.path.abspath(__file__)))
 sys.path.insert(0, os.path.join(ROOT, "workbench"))
 import commands  # noqa: E402
+import gate_costs  # noqa: E402
 
 
 def text_of(*path):
@@ -62,8 +64,9 @@ def main():
         if name not in wanted or rows.get(name) != (operands, required | others):
             wrong += 1
             print(f"workbench/commands.py: {name} is {rows.get(name, 'left out')}, and not {(operands, required | others)}")
-    print(f"{len(wanted)} commands: {'every list has them' if not wrong else f'{wrong} differences'}")
-    return 1 if wrong else 0
+    costs, count = gate_costs.differing()
+    print("\n".join([*costs, f"{len(wanted)} commands, {count} costs: {'every page agrees' if not wrong + len(costs) else f'{wrong + len(costs)} differences'}"]))
+    return 1 if wrong or costs else 0
 
 
 if __name__ == "__main__":

@@ -1,7 +1,10 @@
 #!/usr/bin/env bash
-# Runs ./dcvalid on every file of examples/ and compares the exit status and the first line: which of them always hold. Then each of their
-# automata is certified, and two of them are compared, both ways, and controllers are synthesised and run. Run it by hand: tests/examples.sh
+# Runs the program on every file of examples/ and compares the exit status and the first line: which of them always hold. Then each of their
+# automata is certified, two of them are compared, both ways, and controllers are synthesised and run. DCVALID names another program:
+#     tests/examples.sh
 here=$(dirname "$(dirname "$(readlink -f "${BASH_SOURCE[0]}")")") || exit 1
+program=${DCVALID:-$here/crates/dcvalid/out/dcvalid}
+command -v "$program" >/dev/null || { echo "there is no program $program: ./dcvalid --build makes one" >&2; exit 125; }
 failed=0
 
 # the wanted status and first line of a file, which is on standard output or else on standard error
@@ -14,7 +17,7 @@ wanted() {
 
 for file in "$here"/examples/*.dc; do
   name=$(basename "$file")
-  text=$("$here/dcvalid" check "$file" 2>&1)
+  text=$("$program" check "$file" 2>&1)
   got="$? ${text%%$'\n'*}"
   if [ "$got" = "$(wanted "$name")" ]; then
     echo "$name: $got"
@@ -35,19 +38,19 @@ tell() {
 }
 
 for file in "$here"/examples/*.dc; do
-  text=$("$here/dcvalid" automaton "$file")
+  text=$("$program" automaton "$file")
   states=$(awk '$1 == "states" { print $2 }' <<<"$text")
-  tell "$(basename "$file")" "certified $states" "$("$here/dcvalid" certify /dev/stdin <<<"$text")"
+  tell "$(basename "$file")" "certified $states" "$("$program" certify /dev/stdin <<<"$text")"
 done
 
-tell 'response_2 implies response' implies "$("$here/dcvalid" implies "$here/examples/response_2.dc" "$here/examples/response.dc")"
+tell 'response_2 implies response' implies "$("$program" implies "$here/examples/response_2.dc" "$here/examples/response.dc")"
 tell 'response implies response_2' $'does not imply\ncounterexample 3\n10\n00\n00' \
-  "$("$here/dcvalid" implies "$here/examples/response.dc" "$here/examples/response_2.dc")"
+  "$("$program" implies "$here/examples/response.dc" "$here/examples/response_2.dc")"
 
 # synthesised NAME INPUTS WANTED: the first line of what is found
 synthesised() {
   local text
-  text=$("$here/dcvalid" synth "$here/examples/$1.dc" --inputs "$2")
+  text=$("$program" synth "$here/examples/$1.dc" --inputs "$2")
   tell "$1 with $2 inputs" "$3" "${text%%$'\n'*}"
 }
 synthesised arbiter 2 realisable
@@ -58,8 +61,8 @@ synthesised crossing 1 unrealisable
 # The arbiter, compiled, keeps to its requirement for as long as it is asked.
 work=$(mktemp -d) || exit 1
 trap 'rm -rf "$work"' EXIT
-"$here/dcvalid" synth "$here/examples/arbiter.dc" --inputs 2 | tail -n +2 >"$work/controller.c"
-"$here/dcvalid" c "$here/examples/arbiter.dc" >"$work/observer.c"
+"$program" synth "$here/examples/arbiter.dc" --inputs 2 | tail -n +2 >"$work/controller.c"
+"$program" c "$here/examples/arbiter.dc" >"$work/observer.c"
 if cc -std=c99 -Wall -Wextra -pedantic -Werror -o "$work/arbiter" "$here/examples/controller_use.c" "$work/controller.c" "$work/observer.c"; then
   tell 'the arbiter' 'kept for 100000 instants' "$("$work/arbiter" 100000 | tail -n 1)"
 else

@@ -13,8 +13,10 @@ import subprocess
 import sys
 import tempfile
 
+from tested import tested
+
 HERE = os.path.dirname(os.path.dirname(os.path.abspath(__file__)))
-PROGRAM = os.path.abspath(sys.argv[1]) if len(sys.argv) > 1 else os.path.join(HERE, "crates", "dcvalid", "out", "dcvalid")
+PROGRAM = tested(*sys.argv[1:2])
 MOST = 600
 
 RESPONSE = "var request, grant; infer []({{request && !grant}} ^ [!grant] => slen <= 3);"

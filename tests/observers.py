@@ -18,6 +18,7 @@ import tempfile
 here = os.path.dirname(os.path.abspath(__file__))
 sys.path.insert(0, here)
 from least_words import Evaluator, parse, read_text
+from tested import tested
 
 FLAGS = ["-std=c99", "-Wall", "-Wextra", "-Werror", "-pedantic", "-Wno-unused-parameter"]
 DRAWN, LONGEST = 1000, 9
@@ -71,7 +72,7 @@ def answers(compiler, observer, width, behaviours, folder):
 
 
 def judge(path, folder):
-    program = os.environ.get("PROGRAM") or os.path.join(here, "..", "crates/dcvalid/out/dcvalid")
+    program = tested(os.environ.get("PROGRAM"))
     file = parse(read_text(path))
     goal, width = Evaluator(file).goal, len(file.variables)
     verdict, observer = run(program, "check", path).stdout, run(program, "c", path).stdout

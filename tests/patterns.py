@@ -19,6 +19,7 @@ from library import patterns  # noqa: E402
 from pattern_monitors import MONITORS  # noqa: E402
 from program import Program, Refusal  # noqa: E402
 from sources import Source  # noqa: E402
+from tested import tested  # noqa: E402
 
 LONG = {1: 12, 2: 7, 3: 5, 4: 4}  # by the number of variables, the instants of the longest behaviours that are compared
 SHORT = {1: 8, 2: 4, 3: 3, 4: 2}
@@ -166,7 +167,7 @@ def check(pattern, program, fast, reach):
 
 def main(words):
     names = [word for word in words if not word.startswith("--")]
-    program = Program()
+    program = Program(tested())
     found = [it for it in patterns() if not names or it.name in names]
     missing = sorted({it.name for it in patterns()} ^ set(MONITORS))
     bad = [f"{name}: a pattern without a plain check, or a check without a pattern" for name in missing]

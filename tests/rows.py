@@ -11,7 +11,8 @@ import subprocess
 import sys
 import tempfile
 
-PROGRAM = os.path.abspath(os.environ.get("DCVALID", "./dcvalid"))
+from tested import tested
+
 EXAMPLES = os.path.realpath(os.path.join(os.path.dirname(os.path.abspath(__file__)), "..", "examples"))
 TEXTS = ("f:", "g:", "out:", "err:")
 IN_MEMORY = ("reads ", "writes ", "failing ")
@@ -72,7 +73,7 @@ def fits(wanted, came):
     return len(came) > len(wanted[0] + wanted[1]) and came.startswith(wanted[0]) and came.endswith(wanted[1])
 
 
-def holds(lines):
+def holds(lines, program):
     try:
         words, status, texts, before = read(lines)
     except (ValueError, IndexError):
@@ -84,23 +85,26 @@ def holds(lines):
         os.symlink(EXAMPLES, os.path.join(room, "examples"))
         if before is not None:
             with open(f"{room}/g", "wb") as made:
-                subprocess.run([PROGRAM, *before], cwd=room, stdout=made, stderr=subprocess.DEVNULL, stdin=subprocess.DEVNULL)
-        ran = subprocess.run([PROGRAM, *words], cwd=room, capture_output=True, stdin=subprocess.DEVNULL)
+                subprocess.run([program, *before], cwd=room, stdout=made, stderr=subprocess.DEVNULL, stdin=subprocess.DEVNULL)
+        ran = subprocess.run([program, *words], cwd=room, capture_output=True, stdin=subprocess.DEVNULL)
     held = ran.returncode == status and fits(texts.get("out:", [b""]), ran.stdout) and fits(texts.get("err:", [b""]), ran.stderr)
     return held, f"{ran.returncode} {ran.stdout} {ran.stderr}"
 
 
 def main():
+    program, failed = tested(), 0
     for path in sys.argv[1:]:
         rows = [row for row in rows_of(path) if not any(line.startswith(IN_MEMORY) for line in row[1])]
         held = 0
         for title, lines in rows:
-            good, came = holds(lines)
+            good, came = holds(lines, program)
             held += good
             if not good:
                 print(f"{title}: {came}")
         print(f"{os.path.basename(path)}: {held} of {len(rows)} rows hold")
+        failed += len(rows) - held
+    return 1 if failed else 0
 
 
 if __name__ == "__main__":
-    main()
+    sys.exit(main())

@@ -14,7 +14,8 @@ import subprocess
 import sys
 import tempfile
 
-HERE = os.path.dirname(os.path.dirname(os.path.abspath(__file__)))
+from tested import tested
+
 VARIABLES = ["p", "q"]
 RELATIONS = {"<": operator.lt, "<=": operator.le, "=": operator.eq, ">=": operator.ge, ">": operator.gt}
 JOINS = {"&&": lambda a, b: a and b, "||": lambda a, b: a or b, "=>": lambda a, b: not a or b, "<=>": operator.eq}
@@ -170,7 +171,7 @@ def differing(goal, automaton):
 
 def main():
     draw, count = random.Random(int(sys.argv[1])), int(sys.argv[2])
-    program = sys.argv[3] if len(sys.argv) > 3 else os.path.join(HERE, "dcvalid")
+    program = tested(*sys.argv[3:4])
     asked = differ = 0
     with tempfile.NamedTemporaryFile("w", suffix=".dc") as file:
         for _ in range(count):
@@ -181,9 +182,11 @@ def main():
             file.write(text)
             file.flush()
             ran = subprocess.run([program, "automaton", file.name], capture_output=True, text=True)
-            if not ran.stdout.startswith("automaton"):
+            if ran.returncode == 4:  # over the limits
                 print(text, ran.stderr.strip())
                 continue
+            if not ran.stdout.startswith("automaton"):
+                sys.exit(f"{text} has no automaton: status {ran.returncode}, {ran.stderr.strip()}")
             asked += 1
             tracks = differing(goal, Automaton(ran.stdout))
             if tracks:

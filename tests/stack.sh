@@ -1,8 +1,9 @@
 #!/usr/bin/env bash
-# Runs ./dcvalid under 2 MB of stack, a quarter of what a system gives a program by custom, on the texts that nest deepest: each
+# Runs the program under 2 MB of stack, a quarter of the usual limit, on the texts that nest deepest: each
 # ends with its status and line. It takes some seconds. Run it by hand: tests/stack.sh [PROGRAM]
 here=$(dirname "$(dirname "$(readlink -f "${BASH_SOURCE[0]}")")") || exit 1
-program=${1:-$here/dcvalid}
+program=${1:-${DCVALID:-$here/crates/dcvalid/out/dcvalid}}
+command -v "$program" >/dev/null || { echo "there is no program $program: ./dcvalid --build makes one" >&2; exit 125; }
 work=$(mktemp -d) || exit 1
 trap 'rm -rf "$work"' EXIT
 failed=0
