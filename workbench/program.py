@@ -144,12 +144,14 @@ class Program:
 
     @contextmanager
     def side_by_side(self, jobs: int) -> Iterator[ThreadPoolExecutor]:
-        """A pool for questions. Where what it is used for is broken off, they are too."""
+        """A pool for questions. Where what it is used for is broken off, they are too; after a refusal others may be asked."""
         pool = ThreadPoolExecutor(jobs)
         try:
             yield pool
-        except BaseException:
+        except BaseException as error:
             self.stop()
+            pool.shutdown()
+            self.stopped = not isinstance(error, Exception)
             raise
         finally:
             pool.shutdown()
