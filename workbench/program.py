@@ -9,11 +9,13 @@ import threading
 from concurrent.futures import ThreadPoolExecutor
 from contextlib import contextmanager
 from dataclasses import dataclass
-from typing import Iterator, List, NamedTuple, Optional, Sequence, Set, TextIO
+from typing import TYPE_CHECKING, Iterator, List, NamedTuple, Optional, Sequence, Set, TextIO
 
 from answers import SHAPES, Malformed, Word, check_shape, words_of
 from automaton import Automaton, read_automaton
-from kept import Kept
+
+if TYPE_CHECKING:
+    from kept import Kept
 
 ROOT = os.path.dirname(os.path.dirname(os.path.abspath(__file__)))
 SCRIPT = os.path.join(ROOT, "dcvalid")
@@ -79,7 +81,7 @@ class Program:
         self.show = show
         self.runs = 0
         self.stopped = False
-        self.kept: Optional[Kept] = None  # the answers that are kept
+        self.kept: Optional["Kept"] = None  # the answers that are kept
         self.running: Set["subprocess.Popen[bytes]"] = set()
         self.lock = threading.Lock()
 

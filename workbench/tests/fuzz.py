@@ -8,8 +8,8 @@ import os
 import random
 import sys
 import tempfile
-from concurrent.futures import ThreadPoolExecutor
-from typing import Callable, Dict, Iterator, List, Sequence, Tuple
+from concurrent.futures import ProcessPoolExecutor
+from typing import Callable, Dict, List, Sequence, Tuple
 
 HERE = os.path.dirname(os.path.abspath(__file__))
 sys.path[:0] = [HERE, os.path.dirname(HERE)]
@@ -119,7 +119,7 @@ def judge_tests(case: Case) -> None:
 
 
 def judge_watch(case: Case) -> None:
-    """In pieces of 2 rows, from a dump and from a CSV file."""
+    """In pieces of 3 rows, from a dump and from a CSV file."""
     broken = [length for length in range(1, 7) if not satisfies(case.goals[0], case.word[:length])]
     with tempfile.TemporaryDirectory() as room:
         for name, text in (("a.vcd", vcd("pq", case.word)), ("a.csv", "q,p\n" + "".join(f"{letter[1]},{letter[0]}\n" for letter in case.word))):
@@ -128,7 +128,7 @@ def judge_watch(case: Case) -> None:
                 file.write(text)
             rows = rows_of(path, ["p", "q"], {}, period=1 if name == "a.vcd" else None)
             watch = Watch(case.program, case.texts[0], False)
-            for part, last in pieces(rows, 2):
+            for part, last in pieces(rows, 3):
                 watch.piece(part, last)
             assert [at + 1 for at, _, _ in watch.violations] == broken and watch.count == 6, name
 
@@ -160,6 +160,7 @@ def judge_review(case: Case) -> None:
         requirement = Requirement(case.program, Text(path, path))
     for it in list(neighbours(requirement))[:4]:
         other = parse(it.text).goal
+        assert other != case.goals[0]
         here, there = requirement.difference(requirement.text, it.text), requirement.difference(it.text, requirement.text)
         for word, good, bad in ((here, case.goals[0], other), (there, other, case.goals[0])):
             if isinstance(word, list) and len(word) <= 6:
@@ -206,26 +207,27 @@ def judge_explain(case: Case) -> None:
 JUDGES: Dict[str, Callable[[Case], None]] = {name[6:]: judge for name, judge in list(globals().items()) if name.startswith("judge_")}
 
 
-def judged(seed: int, program: Program) -> Iterator[str]:
+def judged(seed: int) -> List[str]:
     """A line for each command that fails on what this seed draws."""
-    case = Case(seed, program)
+    case, failed = Case(seed, Program()), []
     for name, judge in JUDGES.items():
         try:
             judge(case)
         except Exception as error:  # pylint: disable=broad-except
-            yield f"seed {seed}, {name}: {type(error).__name__}: {error}\n  {case.texts[0].strip()}\n  {case.texts[1].strip()}"
+            failed.append(f"seed {seed}, {name}: {type(error).__name__}: {error}\n  {case.texts[0].strip()}\n  {case.texts[1].strip()}")
+    return failed
 
 
-def fuzz(count: int, seed: int, program: Program) -> Tuple[int, List[str]]:
+def fuzz(count: int, seed: int) -> Tuple[int, List[str]]:
     """How many judgements passed, and the lines of those that failed."""
-    with ThreadPoolExecutor(os.cpu_count() or 2) as pool:
-        failed = [line for lines in pool.map(lambda number: list(judged(number, program)), range(seed, seed + count)) for line in lines]
+    with ProcessPoolExecutor(os.cpu_count() or 2) as pool:
+        failed = [line for lines in pool.map(judged, range(seed, seed + count), chunksize=5) for line in lines]
     return count * len(JUDGES) - len(failed), failed
 
 
 def main(words: Sequence[str]) -> int:
     count, seed = [int(word) for word in words] if len(words) == 2 else (300, 1)
-    passed, failed = fuzz(count, seed, Program())
+    passed, failed = fuzz(count, seed)
     for line in failed[:20]:
         print(line)
     print(f"{passed} passed, {len(failed)} failed")
