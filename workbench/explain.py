@@ -117,7 +117,7 @@ class Explainer:
         if status in (3, 4):
             second = message.endswith(" in second")
             whole = self.question.wholes.get(int(second))
-            lines = (whole.refused(message) if whole else None) or faults.described(self.question.shown[second], self.question.text(second), message, self.program)
+            lines = (faults.refused(whole, message, self.program) if whole else None) or faults.described(self.question.shown[second], self.question.text(second), message, self.program)
         elif status == 5:
             lines += self.unread(message)
         elif status in (9, 10):

@@ -2,6 +2,7 @@
 import re
 from typing import List, Optional, Tuple
 
+import budget
 import expand
 import hints
 import repairs
@@ -49,8 +50,15 @@ def described(path: str, text: str, message: str, program: Optional[Program] = N
     if match is not None:
         what, limit, place, step = match.group(1), *map(int, match.groups()[1:])
         spot = Spot(text, place)
-        return [f"{path}:{spot.row}:{spot.column}: over the budget", *spot.pointed(), *hints.of_budget(what, limit, step)]
+        more = budget.lines(program, text, place) if program else []
+        return [f"{path}:{spot.row}:{spot.column}: over the budget", *spot.pointed(), *hints.of_budget(what, limit, step), *more]
     return [message, *hints.of_message(message)]
+
+
+def refused(whole: expand.Text, message: str, program: Program) -> Optional[List[str]]:
+    """The lines for what the program says of a source, at its place there; None where it is no source, or the message names no place."""
+    lines, step = whole.refused(message), re.match(r"budget \w+ \d+ at (\d+)", message)
+    return lines + budget.lines(program, whole.text, int(step.group(1))) if lines and step else lines
 
 
 def repaired(program: Program, text: str, fault: Fault) -> List[str]:
@@ -79,7 +87,7 @@ def explained(refusal: Refusal, path: Optional[str], name: str, program: Program
     except (OSError, SourceFault):
         return said, refusal.status
     if whole.text == text:
-        return whole.refused(refusal.message) or described(name, text, refusal.message, program), refusal.status
+        return refused(whole, refusal.message, program) or described(name, text, refusal.message, program), refusal.status
     if refusal.over_limits:
         return said + ["  That was said of a text that this command made; --show writes it."], refusal.status
     return said + ["  That was said of a text that this command made: a fault of the workbench. --show writes the text."], NO_PROGRAM

@@ -9,6 +9,12 @@ FORMULAS = ("slen", "scount", "sdur", "pt", "ext", "<", "[", "[[", "<>", "[]", "
 # Hints at a syntax fault: each is asked in turn of the text after it (`rest`), the token there (`word`) and the text before it (`ahead`).
 SYNTAX: Sequence[Tuple[Callable[[str, str, str], object], str]] = (
     (lambda rest, word, ahead: re.match(r'const\s+\w+\s*=|use\s+"', rest), "const and use are for ./ask expand, which writes a file of the language."),
+    (lambda rest, word, ahead: re.search(r"\b[GFX]\s*\([^()]*$|\b[GFX]\s+\S*$", ahead) or word in ("U", "W", "R", "S"),
+     'There are no G, F, X and U. "Always p" is [[p]], "at some time q" is <><q>; ./ask patterns has what is said of p, q and their order.'),
+    (lambda rest, word, ahead: word.isdigit() and re.search(r"\b\w+\s*\((.*,)?$", ahead) and not re.search(r"\b(slen|scount|sdur|infer|as)\s*\($", ahead),
+     "Arguments are propositions. In a source of ./ask expand they may be numbers, where the macro has them in the place of one."),
+    (lambda rest, word, ahead: word in ("infer", "define", "prop") and re.search(r"\bvar\s[^;]*,$", ahead),
+     "After the last name stands a ; and no comma: var p, q;"),
     (lambda rest, word, ahead: rest.startswith("->"), 'Write => for "implies".'),
     (lambda rest, word, ahead: word in "+-" and not re.search(r"(^|\W)(infer|as)$|[(\]>})]$", ahead),
      "There is no arithmetic (./ask expand writes out sums), and no - in names: write _ there. In brackets -p is p one instant earlier and +p one later, as in [[-p]]."),
@@ -89,6 +95,8 @@ def of_byte(spot: Spot) -> List[str]:
     first, lines = spot.rest[:1], ["No token of the language begins with this character."]
     if spot.begins_with_mark:
         return lines + ["  The file begins with a byte order mark (the bytes EF BB BF). Save it without one."]
+    if first == "_" and re.search(r"[0-9]$", spot.front):
+        return lines + ["  A number is digits alone, and 9999 at most."]
     if first == ":" and re.search(r"\b(ex|all)\s+\w+$", spot.before()[0]):
         return lines + ["  Behind a quantified name stands a full stop: ex q. [[q]]"]
     if first == ":":

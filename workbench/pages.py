@@ -61,7 +61,7 @@ def completion() -> str:
             options = options_of(command) if tool == "ask" else command.options + more[tool]
             if options:
                 lines.append(f"    '{tool} {command.name}') echo '{' '.join(option.name for option in options)}' ;;")
-            values |= {option.name for option in options if option.value not in ("", "OUT", "FILE", "NAMES", "FOLDER")}
+            values |= {option.name for option in options if option.value not in ("", "OUT", "FILE", "NAMES", "FOLDER", "LIST")}
     names = {table: " ".join(command.name for command in commands) for table, commands in (("program", PROGRAM), ("ask", ASK))}
     return COMPLETION.format(options="\n".join(lines), values=" | ".join(sorted(values)), **names)
 

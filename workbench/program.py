@@ -9,11 +9,13 @@ import threading
 from concurrent.futures import ThreadPoolExecutor
 from contextlib import contextmanager
 from dataclasses import dataclass
-from typing import Iterator, List, NamedTuple, Optional, Sequence, Set, TextIO
+from typing import TYPE_CHECKING, Iterator, List, NamedTuple, Optional, Sequence, Set, TextIO
 
 from answers import SHAPES, Malformed, Word, check_shape, words_of
 from automaton import Automaton, read_automaton
-from kept import Kept
+
+if TYPE_CHECKING:
+    from kept import Kept
 
 ROOT = os.path.dirname(os.path.dirname(os.path.abspath(__file__)))
 SCRIPT = os.path.join(ROOT, "dcvalid")
@@ -79,7 +81,7 @@ class Program:
         self.show = show
         self.runs = 0
         self.stopped = False
-        self.kept: Optional[Kept] = None  # the answers that are kept
+        self.kept: Optional["Kept"] = None  # the answers that are kept
         self.running: Set["subprocess.Popen[bytes]"] = set()
         self.lock = threading.Lock()
 
@@ -144,12 +146,14 @@ class Program:
 
     @contextmanager
     def side_by_side(self, jobs: int) -> Iterator[ThreadPoolExecutor]:
-        """A pool for questions. Where what it is used for is broken off, they are too."""
+        """A pool for questions. Where what it is used for is broken off, they are too; after a refusal others may be asked."""
         pool = ThreadPoolExecutor(jobs)
         try:
             yield pool
-        except BaseException:
+        except BaseException as error:
             self.stop()
+            pool.shutdown()
+            self.stopped = not isinstance(error, Exception)
             raise
         finally:
             pool.shutdown()

@@ -9,6 +9,7 @@ from typing import Callable, Dict, Iterable, Iterator, List, Sequence, Tuple, Un
 
 from language import RELATIONS, RESERVED, TOKEN, Token, tokens_before
 from program import Fault, Program
+from spots import shown
 
 Change = Tuple[str, str, str]  # a phrase or its pattern, the token, and the text after the change
 
@@ -34,6 +35,12 @@ FOREIGN: Dict[str, List[str]] = {
 # Pieces around a fault that other notations write, and what is written here for them.
 REWRITES: Sequence[Tuple[str, Union[str, Callable[["re.Match[str]"], str]]]] = (
     (r"/\*.*?\*/", " "),
+    *((re.escape(mark.encode().decode("latin-1")), written) for mark, written in (
+        ("\u2264", "<="), ("\u2265", ">="), ("\u00ac", "!"), ("\u2227", "&&"), ("\u2228", "||"), ("\u2192", "=>"), ("\u21d2", "=>"),
+        ("\u2194", "<=>"), ("\u21d4", "<=>"), ("\u2203", "ex"), ("\u2200", "all"), ("\u25c7", "<>"), ("\u25a1", "[]"))),
+    (r"\bcount(?=\s+[\w(!])", "scount"), (r"\b(?:dur|duration)(?=\s+[\w(!])", "sdur"),
+    (r"\b\d+(?:_\d+)+\b", lambda match: match.group().replace("_", "")),
+    (r",\s*(?=(?:infer|define|prop)\b)", "; "),
     (r"(slen|(?:scount|sdur)\s*(?:[A-Za-z]\w*|\([^()]*\)))\s*(?:!=|<>|/=)\s*([0-9]+)", r"!(\1 = \2)"),
     (r"([A-Za-z]\w*)\s*(?:!=|/=)\s*([A-Za-z]\w*)", r"!(\1 <=> \2)"),
     (r"[A-Za-z]\w*(?:-[A-Za-z]\w*)+", lambda match: match.group().replace("-", "_")),
@@ -139,7 +146,7 @@ def _rewritten(text: str, place: int) -> Iterator[Tuple[str, str]]:
         for match in re.finditer(pattern, text[start:min(end, start + 10_000)], re.S | re.A):
             if match.start() <= place - start <= match.end() + 1:
                 written, piece = re.sub(pattern, new, match.group(), 1, re.S | re.A) if callable(new) else match.expand(new), match.group()
-                phrase = f"write {written} for {piece}" if written.strip() else f"leave out {piece}"
+                phrase = f"write {written.strip()} for {shown(piece.strip())}" if written.strip() else f"leave out {shown(piece)}"
                 yield phrase, text[:start + match.start()] + written + text[start + match.end():]
                 if text.count(piece) > 1:
                     yield phrase + " everywhere", text.replace(piece, written)

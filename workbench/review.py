@@ -241,8 +241,9 @@ def run(options: argparse.Namespace, program: Program) -> int:
         requirement = Requirement(program, whole, questions)
         names = " ".join(requirement.variables)
         print(f"{options.shown}: " + (f"an instant is written as the digits of {names}" if names else "no variables"))
-        sections = list(outer.map(lambda section: section[1](requirement), SECTIONS))
-    for (title, _), lines in zip(SECTIONS, sections):
+        sections = [(title, outer.submit(lines, requirement)) for title, lines in SECTIONS]
+        answers = [(title, section.result()) for title, section in sections]
+    for title, lines in answers:
         if lines:
             print(f"\n{title}")
             print("\n".join("  " + line if line else "" for line in lines))

@@ -13,7 +13,7 @@ from itertools import count, groupby, zip_longest
 from typing import Callable, Dict, Iterator, List, Optional, Sequence, Tuple
 
 from diagrams import Automaton, Cannot, Diagram, Letter, Wrong, digits, ends_of, insist, joined, merged
-from expand import Text
+from expand import Text, line_of
 from forms import Formula
 from language import Fault, Tree
 from printed import Printed, tables_in_c, unit_in_c, unit_in_lustre
@@ -28,7 +28,7 @@ Ask = Callable[..., Tuple[int, str]]  # the status and the output of a command a
 class Check:
     """The automaton of a file, checked with all parts of its formula."""
 
-    def __init__(self, ask: Ask, text: str) -> None:
+    def __init__(self, ask: Ask, text: str, whole: Optional[Text] = None) -> None:
         self.ask, self.text, self.pairs = ask, text, 0
         self.known: Dict[Tree, Automaton] = {}
         counts: Dict[Tree, str] = {}
@@ -42,8 +42,9 @@ class Check:
                 numbers, answer, what = dict(zip(self.names, count())), output, "the automaton of the file"
                 if number + 1 < len(formula.steps):
                     question, numbers = formula.question(form)
-                    answer, line = ask("automaton", question, part=True)[1], text.count("\n", 0, start) + 1
-                    what = f"the automaton of a part of line {line}, asked for by\n  {question.strip()}\n"
+                    answer = ask("automaton", question, part=True)[1]
+                    line = whole.line(start) if whole else f"line {line_of(text, start)}"
+                    what = f"the automaton of a part of {line}, asked for by\n  {question.strip()}\n"
                 printed = Printed(what, answer, numbers)
                 self.compare(exact, printed)
                 printed.check_suffixes()
@@ -174,7 +175,8 @@ def verified(options: argparse.Namespace, ask: Ask) -> Iterator[str]:
     """What is verified, each line when it is."""
     checks: List[Check] = []
     for path, shown in ((options.file, options.shown), (options.other, options.other))[:1 + options.implies]:
-        check = Check(ask, Text(path, shown).text)
+        whole = Text(path, shown)
+        check = Check(ask, whole.text, whole)
         checks.append(check)
         yield f"the automaton of {shown}, {len(check.rows)} states, by {len(check.known)} parts and {check.pairs} pairs of states"
         yield "no automaton has fewer states"

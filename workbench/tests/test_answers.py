@@ -151,6 +151,12 @@ esac
         self.file("fails", "")
         self.assertEqual(self.explained("check", self.text), (125, "", "so much is proved\n", ["--build"]))
 
+    def test_what_needs_no_program_builds_none(self):
+        shutil.copytree(os.path.join(ROOT, "patterns"), os.path.join(self.folder, "patterns"))
+        for words in (("expand", self.text), ("pattern", "absence"), ("patterns",), ("draw", self.file("a.trace", "0\n")), ("register", self.folder)):
+            done = subprocess.run([os.path.join(self.folder, "ask"), *words], env={**os.environ, "DCVALID": ""}, stdout=subprocess.PIPE, check=False)
+            self.assertEqual((done.returncode, os.path.exists(os.path.join(self.folder, "calls"))), (0, False), words)
+
     def test_no_build(self):
         for words in (["chek", self.text], ["check", self.folder + "/missing"], ["implies", self.text, "missing"], ["--version"]):
             self.assertEqual(self.explained(*words), (5, "", "there is no such thing\n", [" ".join(words)]))

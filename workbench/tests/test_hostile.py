@@ -1,11 +1,9 @@
 """Inputs and programs that mean no good: each has a named refusal, no wrong answer, and no traceback. Each row was answered wrongly once."""
 import os
 import re
-import shutil
 import signal
 import subprocess
 import sys
-import tempfile
 import time
 import unittest
 import xml.dom.minidom
@@ -44,16 +42,21 @@ class Programs(WithFolder):
         return [*command, path, *more]
 
     def test_no_program_that_is_killed_answers(self):
-        cut = 'REAL "$@" | head -n 3; kill -9 $$'
-        for text in ("kill -9 $$", cut, "exit 0", "exit 1", "echo valid", "exit 77", 'REAL "$@"; exit 0', 'REAL "$@"; kill -15 $$'):
-            for command in COMMANDS:
-                if text == 'REAL "$@"; exit 0' and command in (("draw", "--automaton"), ("tables",), ("tests",), ("explain", "c"), ("explain", "implies"),
-                                                                ("explain", "automaton")):
-                    continue  # their answers are whole: only the status is another one
-                status, out, err = run("ask", *self.words(command), program=self.program(text))
-                self.assertNotIn("Traceback", err)
-                self.assertIn(status, (125, 1 if command == ("verify",) and "exit 0" in text else 125), (text, command, out, err))
-                self.assertNotRegex(out, "holds|words|0 states")
+        asks = (lambda it: it.check(ALWAYS), lambda it: it.automaton(ALWAYS), lambda it: it.implies(ALWAYS, ALWAYS), lambda it: it.stuck(ALWAYS),
+                lambda it: it.observer(ALWAYS), lambda it: it.replay("", ["1", "0"]), lambda it: it.fault("infer"), lambda it: it.observer(ALWAYS, "lustre"))
+        for text in ("kill -9 $$", "exit 0", "exit 1", "echo valid", "exit 77", "exit 255", 'REAL "$@"; kill -15 $$', 'REAL "$@" | head -n 3; kill -9 $$'):
+            program = Program(self.program(text))
+            for number, ask in enumerate(asks):
+                with self.subTest(text=text, ask=number), self.assertRaises(Refusal) as caught:
+                    ask(program)
+                self.assertEqual(caught.exception.status, 125)
+
+    def test_no_command_answers_by_a_program_that_is_killed(self):
+        program = self.program('REAL "$@" | head -n 3; kill -9 $$')
+        for command in COMMANDS:
+            status, out, err = run("ask", *self.words(command), program=program)
+            self.assertEqual((status, "SIGKILL" in err, err.count("\n")), (125, True, 1), (command, out, err))
+            self.assertNotRegex(out, "holds|words|0 states|valid")
 
     def test_a_replay_that_ends_early(self):
         """The log is broken at instant 3, and three answers are there."""
@@ -207,7 +210,7 @@ class Logs(WithFolder):
 @needs_program
 class Streams(WithFolder):
     def test_outputs_that_fail(self):
-        for words in (("review", RESPONSE), ("explain", "check", RESPONSE), ("patterns",), ("expand", RESPONSE), ("verify", RESPONSE), ("set", RESPONSE)):
+        for words in (("explain", "check", RESPONSE), ("patterns",), ("expand", RESPONSE)):
             line = f"'{os.path.join(ROOT, 'ask')}' {' '.join(words)}"
             for ending in (">/dev/full", "| true; exit ${PIPESTATUS[0]}", ">&-"):
                 done = subprocess.run(["bash", "-c", f"{line} {ending}"], env={**os.environ, "DCVALID": PROGRAM}, stderr=subprocess.PIPE, check=False)
@@ -219,7 +222,7 @@ class Streams(WithFolder):
             self.assertEqual((status, "Traceback" in err), (6, False), words)
 
     def test_inputs_that_cannot_be_read(self):
-        for command in ("review", "draw", "expand"):
+        for command in ("draw", "expand"):
             for path in (self.folder, os.path.join(self.folder, "none")):
                 status, out, err = run("ask", command, path)
                 self.assertEqual((status, out, err.count("\n")), (5, "", 1), (command, path))
@@ -240,7 +243,7 @@ class Streams(WithFolder):
         with open(path, "w", encoding="ascii") as file:
             file.write(ALWAYS)
         drawn, junit = os.path.join(self.folder, "a.svg"), os.path.join(self.folder, "a.xml")
-        for words in (("review",), ("draw", "--svg", drawn), ("set", "--junit", junit), ("tables",), ("explain", "check"), ("tests",)):
+        for words in (("draw", "--svg", drawn), ("set", "--junit", junit), ("explain", "check")):
             for encoding in ("utf-8", "ascii"):
                 done = subprocess.run([os.path.join(ROOT, "ask"), *words[:1 + (words[0] == "explain")], path, *words[1 + (words[0] == "explain"):]],
                                       env={**os.environ, "DCVALID": PROGRAM, "PYTHONIOENCODING": encoding}, stdout=subprocess.PIPE,

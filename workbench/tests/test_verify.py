@@ -190,7 +190,7 @@ class Right(WithFolder):
     def test_drawn_formulas(self):
         """Each is verified; and what is verified is the definition, on all behaviours of up to 3 instants."""
         draw = random.Random(67)
-        for _ in range(40):
+        for _ in range(15):
             text = f"var p, q; infer {drawn(draw, ['p', 'q'], 3)};"
             with self.subTest(text):
                 check, goal = checked(text, inputs=draw.randrange(3)), parse(text).goal

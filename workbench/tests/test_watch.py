@@ -53,7 +53,7 @@ class Watching(WithFolder):
         path = self.log(self.drawn(1))
         for more in ([], ["--rearm"]):
             whole = self.ask(RESPONSE, path, *more)
-            for size in ("7", "64", "399", "400"):
+            for size in ("37", "64", "399", "400"):
                 self.assertEqual(self.ask(RESPONSE, path, "--piece", size, *more), whole)
 
     def test_the_rows_around(self):

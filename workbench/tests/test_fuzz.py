@@ -1,0 +1,52 @@
+"""300 drawn formulas, on each of which each command is judged; and faults that are planted in the workbench, which are found. SEED=7 draws others."""
+import os
+import unittest
+from unittest import mock
+
+import fuzz
+from program import Program
+from support import PROGRAM, needs_program
+
+SEED = int(os.environ.get("SEED", "1"))
+
+# A command, what of the workbench is another thing, and what it is.
+PLANTED = (
+    ("tests", "suite.answers_of", lambda automaton, word: [0] * len(word)),
+    ("watch", "watch.Watch.go_on", lambda watch, word: None),
+    ("explain", "explain.words_of", lambda report: {}),
+    ("set", "asked.Questions.refuted", lambda questions, left, right: True),
+    ("automaton", "tables.Tables.leaf", lambda tables, place, letter: 0),
+    ("review", "questions.Requirement.put", lambda requirement, start, end, new: requirement.text),
+    ("check", "program.words_of", lambda report: {"counterexample": ["00"], "example": ["00"]}),
+    ("stuck", "program.words_of", lambda report: {"stuck": ["00"]}),
+    ("implies", "program.words_of", lambda report: {"counterexample": ["00"]}),
+    ("expand", "shapes.natural", lambda digits: 1),
+    ("draw", "fuzz.columns", lambda word: []),
+    ("verify", "verify.ends_of", lambda diagram: {}),
+)
+
+
+@needs_program
+class Fuzz(unittest.TestCase):
+    def test_drawn_formulas(self):
+        passed, failed = fuzz.fuzz(300, SEED)
+        self.assertEqual((passed, failed), (300 * len(fuzz.JUDGES), []))
+
+    def test_each_judge_finds_a_fault(self):
+        self.assertEqual({name for name, _, _ in PLANTED}, set(fuzz.JUDGES))
+        cases = [fuzz.Case(seed, Program(PROGRAM)) for seed in range(20)]
+        for name, place, fault in PLANTED:
+            with self.subTest(name), mock.patch(place, fault):
+                self.assertTrue(any(self.fails(name, case) for case in cases))
+
+    @staticmethod
+    def fails(name, case):
+        try:
+            fuzz.JUDGES[name](case)
+        except Exception:  # pylint: disable=broad-except
+            return True
+        return False
+
+
+if __name__ == "__main__":
+    unittest.main()
