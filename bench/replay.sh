@@ -23,7 +23,7 @@
 set -euo pipefail
 here=$(cd "$(dirname "$(readlink -f "${BASH_SOURCE[0]}")")" && pwd)
 program=${PROGRAM:-$here/../crates/dcvalid/out/dcvalid}
-[ -n "${PROGRAM-}" ] || "$here/../dcvalid" --require-proof --build || exit 
+[ -n "${PROGRAM-}" ] || "$here/../dcvalid" --require-proof --build || exit # an unproved program has checks in it, which cost time
 folder=$(mktemp -d)
 trap 'rm -rf "$folder"' EXIT
 

@@ -1,5 +1,5 @@
 #!/usr/bin/env python3
-"""Tells how the wrong bodies fell that a log of `rt ci`, `rt must-fail` or `tests/plants.sh` says were refused. By hand:
+"""Reports how the wrong bodies fell that a log of `rt ci`, `rt must-fail` or `tests/plants.sh` says were refused. By hand:
 
     tests/edits.py LOG ..
 

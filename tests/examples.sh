@@ -7,7 +7,7 @@ program=${DCVALID:-$here/crates/dcvalid/out/dcvalid}
 command -v "$program" >/dev/null || { echo "there is no program $program: ./dcvalid --build makes one" >&2; exit 125; }
 failed=0
 
-# the wanted status and first line of a file, which is on standard output or else on standard error
+# the wanted status and first line of a file, which is on standard output, or on standard error if it prints nothing
 wanted() {
   case $1 in
     always.dc | gas_burner.dc | gas_burner_30.dc) echo '0 valid' ;;
@@ -27,8 +27,8 @@ for file in "$here"/examples/*.dc; do
   fi
 done
 
-# tell NAME WANTED GOT
-tell() {
+# expect NAME WANTED GOT
+expect() {
   if [ "$3" = "$2" ]; then
     echo "$1: $3"
   else
@@ -40,18 +40,18 @@ tell() {
 for file in "$here"/examples/*.dc; do
   text=$("$program" automaton "$file")
   states=$(awk '$1 == "states" { print $2 }' <<<"$text")
-  tell "$(basename "$file")" "certified $states" "$("$program" certify /dev/stdin <<<"$text")"
+  expect "$(basename "$file")" "certified $states" "$("$program" certify /dev/stdin <<<"$text")"
 done
 
-tell 'response_2 implies response' implies "$("$program" implies "$here/examples/response_2.dc" "$here/examples/response.dc")"
-tell 'response implies response_2' $'does not imply\ncounterexample 3\n10\n00\n00' \
+expect 'response_2 implies response' implies "$("$program" implies "$here/examples/response_2.dc" "$here/examples/response.dc")"
+expect 'response implies response_2' $'does not imply\ncounterexample 3\n10\n00\n00' \
   "$("$program" implies "$here/examples/response.dc" "$here/examples/response_2.dc")"
 
 # synthesised NAME INPUTS WANTED: the first line of what is found
 synthesised() {
   local text
   text=$("$program" synth "$here/examples/$1.dc" --inputs "$2")
-  tell "$1 with $2 inputs" "$3" "${text%%$'\n'*}"
+  expect "$1 with $2 inputs" "$3" "${text%%$'\n'*}"
 }
 synthesised arbiter 2 realisable
 synthesised lift_door 2 realisable
@@ -64,8 +64,8 @@ trap 'rm -rf "$work"' EXIT
 "$program" synth "$here/examples/arbiter.dc" --inputs 2 | tail -n +2 >"$work/controller.c"
 "$program" c "$here/examples/arbiter.dc" >"$work/observer.c"
 if cc -std=c99 -Wall -Wextra -pedantic -Werror -o "$work/arbiter" "$here/examples/controller_use.c" "$work/controller.c" "$work/observer.c"; then
-  tell 'the arbiter' 'kept for 100000 instants' "$("$work/arbiter" 100000 | tail -n 1)"
+  expect 'the arbiter' 'kept for 100000 instants' "$("$work/arbiter" 100000 | tail -n 1)"
 else
-  tell 'the arbiter' compiled 'not compiled'
+  expect 'the arbiter' compiled 'not compiled'
 fi
 exit "$failed"

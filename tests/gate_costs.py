@@ -42,7 +42,7 @@ def measured() -> Dict[str, int]:
 
 
 def read_crates():
-    """The crates of crates.txt, each with those of them that it stands on."""
+    """The crates of crates.txt, each with those of them that it uses."""
     needs = {}
     with open(os.path.join(ROOT, "crates.txt"), encoding="utf-8") as file:
         for line in file:

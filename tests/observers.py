@@ -4,7 +4,7 @@
     tests/observers.py [FILE ..]
 
 gcc, and clang where it is there, take each observer inside a program of this script's, with `-std=c99 -Wall -Wextra -Werror -pedantic`. (They
-are told not to mind a parameter that nothing reads: a variable may be one.) What it returns at each instant of the counterexample, of the example and of
+do not warn of a parameter that nothing reads: a variable may be one.) What it returns at each instant of the counterexample, of the example and of
 1,000 drawn behaviours is compared with what the formula means, by the evaluator of `least_words.py`, which tries intervals and shares no code with
 dcvalid. Where that takes long, drawn behaviours are short.
 """

@@ -119,7 +119,7 @@ def of_short(pattern, program, most):
 
 
 def states_told(pattern, numbers):
-    """The states that `reach` tells for these numbers, or None where it tells nothing of them."""
+    """The states that `reach` names for these numbers, or None where it names none."""
     formula, low, other = re.match(r"(.*?) states(?: \(from \w = (\d+)\))?(?: with (\w = [^;]*))?", pattern.fields["reach"]).groups()
     if low and max(numbers.get("n", 0), numbers.get("k", 0) if "n" not in numbers else 0) < int(low):
         return None

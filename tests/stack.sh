@@ -42,7 +42,7 @@ rows=0
 open=$(times 499 '(')
 close=$(times 499 ')')
 
-# Prefixes, and what stands after a formula: 500 of each, and one more than may be.
+# Prefixes and suffixes of a formula: 500 of each, and one more than may be.
 row 1 'not valid' '500 parentheses' 'infer (' "$open" 'pt' "$close" ');'
 row 1 'not valid' '500 negations' 'infer ' "$(times 500 '!')" 'pt;'
 row 0 'valid' '500 diamonds' 'infer ' "$(times 500 '<>')" 'pt;'
