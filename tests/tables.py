@@ -16,6 +16,7 @@ import sys
 import tempfile
 
 from sweeps import Draw, formula
+from tested import tested
 
 FLAGS = ["-std=c89", "-O1", "-Wall", "-Wextra", "-Wconversion", "-pedantic", "-Werror", "-Wno-unused-parameter",
          "-fsanitize=address,undefined", "-fno-sanitize-recover=all"]
@@ -168,7 +169,7 @@ def judge(program, path, folder, draw, instants):
 
 def main():
     count, seed, instants = (int(word) for word in (sys.argv[1:] + ["100", "7", "10000"][len(sys.argv) - 1:]))
-    program = os.environ.get("DCVALID") or sys.exit("tests/tables.py: set DCVALID to the program; ./dcvalid --build makes one")
+    program = tested()
     draw, source, states = random.Random(seed), Draw(seed), []
     with tempfile.TemporaryDirectory() as folder:
         path = os.path.join(folder, "drawn.dc")

@@ -13,7 +13,7 @@ import sys
 import tempfile
 from typing import Callable, List, NamedTuple
 
-from tested import program
+from tested import tested
 
 
 class Case(NamedTuple):
@@ -48,9 +48,9 @@ def steady(size: int) -> str:
 
 
 CASES = [
-    Case("the row of a large set is made from that of a smaller one, in a chop", "check", chop, 200, 3.0, 3.7),
-    Case("the same, in a quantifier", "check", exists, 50, 3.0, 3.8),
-    Case("a verdict that ends early", "check", early, 30, 2.0, 3.6),
+    Case("the row of a large set is made from that of a smaller one, in a chop", "check", chop, 200, 2.8, 3.6),
+    Case("the same, in a quantifier", "check", exists, 50, 5.5, 7.2),
+    Case("a verdict that ends early", "check", early, 30, 2.4, 3.3),
     Case("nothing is tried after a suffix that is the same at all states", "certify", steady, 2000, 1.5, 1.9),
 ]
 
@@ -76,7 +76,7 @@ def quotient(path: str, case: Case) -> float:
 
 
 def main() -> int:
-    path, failed = program(), 0
+    path, failed = tested(), 0
     for case in CASES:
         found = quotient(path, case)
         failed += found > case.most
