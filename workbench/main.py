@@ -40,6 +40,22 @@ class Shown(io.TextIOWrapper):
         return super().write(text.translate(PLAIN))
 
 
+class Errors(Shown):
+    """Standard error: where nobody can read it, that is no failure of the command."""
+
+    def write(self, text: str) -> int:
+        try:
+            return super().write(text)
+        except OSError:
+            return len(text)
+
+    def flush(self) -> None:
+        try:
+            super().flush()
+        except OSError:
+            pass
+
+
 def stop(number: int, _: Optional[FrameType]) -> NoReturn:
     """Ends the run by an exception, once: what it began is tidied up without being disturbed."""
     quieten()
@@ -59,10 +75,13 @@ def prepare() -> None:
     for name in ("stdout", "stderr"):
         stream = getattr(sys, name)
         if stream is None:  # it is closed
+            if name == "stderr":
+                sys.stderr = open(os.devnull, "w", encoding="utf-8")
             continue
         if not isinstance(stream, Shown):
             stream.flush()
-            setattr(sys, name, Shown(stream.detach(), encoding=stream.encoding, errors="backslashreplace", line_buffering=name == "stderr"))
+            kind, encoding = Errors if name == "stderr" else Shown, stream.encoding
+            setattr(sys, name, kind(stream.detach(), encoding=encoding, errors="backslashreplace", line_buffering=name == "stderr"))
     tempfile.gettempdir()  # it writes a file to find out, and so leaves none
     for number in SIGNALS:
         if signal.getsignal(number) != signal.SIG_IGN:

@@ -22,8 +22,8 @@ class Sources(WithFolder):
         self.log = self.file("lock.csv", "ask,open\n1,0\n0,0\n0,0\n0,0\n")
 
     def test_each_command_answers_as_for_the_file_of_the_language(self):
-        for words in (("draw",), ("draw", "--automaton"), ("tests",), ("tables", "--name", "a", "--out", self.folder), ("watch", self.log), ("verify", "--observer"),
-                      ("explain", "check"), ("explain", "c"), ("explain", "lustre"), ("explain", "stuck"), ("explain", "synth", "--inputs", "1")):
+        for words in (("draw",), ("tests",), ("tables", "--name", "a", "--out", self.folder), ("watch", self.log), ("verify", "--observer"),
+                      ("explain", "c"), ("explain", "synth", "--inputs", "1")):
             found = []
             for path in (self.path, self.plain):
                 place = 2 if words[0] == "explain" else 1
@@ -44,7 +44,7 @@ class Sources(WithFolder):
         fault = self.file("fault.dc", LOCK.replace("ask, open, wait", "ask, opn, wait"))
         over = self.file("over.dc", "const n = 200;\nvar p, q;\ndefine many(x, k) as scount x = k;\ninfer many(p, n) &&\n  many(q, n);\n")
         notation = self.file("notation.dc", "const n = 3 4;\nvar p; infer <p>;\n")
-        for words in (("review",), ("draw",), ("tests",), ("tables",), ("verify",), ("watch", self.log), ("explain", "check")):
+        for words in (("review",), ("tables",), ("verify",), ("watch", self.log), ("explain", "check")):
             for path, status, said in ((fault, 3, "fault.dc:5:29: fault unknown"), (over, 4, "over.dc:4:7: over the budget"),
                                        (notation, 3, "notation.dc:1:13: a number is expected here")):
                 place = 2 if words[0] == "explain" else 1
