@@ -296,5 +296,4 @@ def to_text(tree: Tree) -> str:
 
 def goal_text(variables: Sequence[str], goal: Union[Tree, str]) -> str:
     """The text of a file without macros; the goal is a tree or a text."""
-    declared = f"var {', '.join(variables)};\n" if variables else ""
-    return f"{declared}infer {goal if isinstance(goal, str) else to_text(goal)};\n"
+    return (f"var {', '.join(variables)};\n" if variables else "") + f"infer {goal if isinstance(goal, str) else to_text(goal)};\n"
