@@ -291,6 +291,16 @@ class Growth(WithFolder):
         source = load(self.file("use.dc", 'use "lib.dc";\nuse "other.dc";\ninfer m59;\n' if self.file("other.dc", chain + "infer pt;\n") else ""), "use.dc")
         self.assertFalse(source.is_ambiguous(source.visible()["m59"][0]))
 
+    def test_chains_that_are_too_long(self):
+        """Of macros in another file, and of files."""
+        self.file("lib.dc", "define m0 as pt;\n" + "".join(f"define m{level} as m{level - 1};\n" for level in range(1, 11_000)) + "infer pt;\n")
+        for level in range(1, 300):
+            self.file(f"f{level}.dc", f'use "f{level - 1}.dc";\ninfer pt;\n')
+        self.file("f0.dc", "infer pt;\n")
+        for text, said in (('use "lib.dc";\ninfer m10999;\n', "more than 1000 macros"), ('use "f299.dc";\ninfer pt;\n', "more than 100 files")):
+            status, _, err = run("ask", "expand", self.file("a.dc", text))
+            self.assertEqual((status, said in err), (3, True), err[-300:])
+
     @needs_program
     def test_suites_of_many_states(self):
         """248 p at most: each of the 250 states needs a suffix of its own, and the traces are few."""
