@@ -9,7 +9,6 @@ import os
 import signal
 import sys
 import tempfile
-import traceback
 from types import FrameType
 from typing import List, NoReturn, Optional, Sequence
 
@@ -135,9 +134,16 @@ def told(error: BaseException, name: str) -> int:
     if isinstance(error, (Malformed, Fault)):
         complain(f"{name}: {error}")
         return 10 if isinstance(error, Malformed) else 3
-    place = traceback.extract_tb(error.__traceback__)[-1]
-    complain(f"{name}: a fault of the workbench itself: {type(error).__name__}: {error} ({os.path.basename(place.filename)}:{place.lineno})")
+    complain(f"{name}: a fault of the workbench itself: {type(error).__name__}: {error} ({place_of(error)})")
     return NO_PROGRAM
+
+
+def place_of(error: BaseException) -> str:
+    """The file and the line where an error came up."""
+    place = error.__traceback__
+    while place is not None and place.tb_next is not None:
+        place = place.tb_next
+    return f"{os.path.basename(place.tb_frame.f_code.co_filename)}:{place.tb_lineno}" if place else "nowhere"
 
 
 def closed() -> None:
