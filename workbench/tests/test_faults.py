@@ -105,21 +105,27 @@ class Faults(WithFolder):
         return error.splitlines()
 
     def test_places(self):
-        for text, kind, offset, row, column, hint in PLACES:
+        paths = [self.file(f"text{number}.dc", row[0]) for number, row in enumerate(PLACES)]
+        plain = support.each(lambda path: run(os.path.abspath(support.PROGRAM), "check", path), paths)
+        said = support.each(lambda path: run("explain", "check", path), paths)
+        for (text, kind, offset, row, column, hint), path, answer, explained in zip(PLACES, paths, plain, said):
             with self.subTest(text=text):
-                status, _, line = run(os.path.abspath(support.PROGRAM), "check", self.file("text.dc", text))
-                self.assertEqual((status, line.strip()), (3, f"fault {kind} at {offset}"))
-                lines = self.explained(text)
-                self.assertTrue(lines[0].startswith(f"{self.folder}/text.dc:{row}:{column}: fault {kind}"), lines[0])
+                self.assertEqual((answer[0], answer[2].strip()), (3, f"fault {kind} at {offset}"))
+                self.assertEqual(explained[:2], (3, ""))
+                lines = explained[2].splitlines()
+                self.assertTrue(lines[0].startswith(f"{path}:{row}:{column}: fault {kind}"), lines[0])
                 self.assertEqual(len(lines[2]), column + 8)
                 self.assertRegex("\n".join(lines[3:]), hint)
 
     def test_mistakes(self):
         program = Program()
-        for text, stands, change in MISTAKES:
+
+        def described(row):
+            message = program.run(["check", "/dev/stdin"], row[0]).error.strip()
+            return "\n".join(faults.described("text.dc", row[0], message, program))
+
+        for (text, stands, change), said in zip(MISTAKES, support.each(described, MISTAKES)):
             with self.subTest(text=text):
-                message = program.run(["check", "/dev/stdin"], text).error.strip()
-                said = "\n".join(faults.described("text.dc", text, message, program))
                 found = re.search(r"^  May stand here: (.*)$", said, re.M)
                 self.assertEqual(found and found.group(1), stands)
                 found = re.search(r"^  No fault is left if you (.*)\.$", said, re.M)

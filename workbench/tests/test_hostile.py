@@ -8,7 +8,7 @@ import time
 import unittest
 import xml.dom.minidom
 
-from support import PROGRAM, ROOT, WithFolder, needs_program, run
+from support import PROGRAM, ROOT, WithFolder, each, needs_program, run
 
 sys.path.insert(0, os.path.join(ROOT, "workbench"))
 from answers import Malformed, check_shape, words_of  # noqa: E402
@@ -53,8 +53,8 @@ class Programs(WithFolder):
 
     def test_no_command_answers_by_a_program_that_is_killed(self):
         program = self.program('REAL "$@" | head -n 3; kill -9 $$')
-        for command in COMMANDS:
-            status, out, err = run("ask", *self.words(command), program=program)
+        asked = each(lambda command: run("ask", *self.words(command), program=program), COMMANDS)
+        for command, (status, out, err) in zip(COMMANDS, asked):
             self.assertEqual((status, "SIGKILL" in err, err.count("\n")), (125, True, 1), (command, out, err))
             self.assertNotRegex(out, "holds|words|0 states|valid")
 
@@ -222,12 +222,12 @@ class Streams(WithFolder):
             self.assertEqual((status, "Traceback" in err), (6, False), words)
 
     def test_inputs_that_cannot_be_read(self):
-        for command in ("draw", "expand"):
-            for path in (self.folder, os.path.join(self.folder, "none")):
-                status, out, err = run("ask", command, path)
+        cases = [(command, path) for command in ("draw", "expand") for path in (self.folder, os.path.join(self.folder, "none"), "/dev/zero")]
+        for (command, path), (status, out, err) in zip(cases, each(lambda words: run("ask", *words), cases)):
+            if path == "/dev/zero":
+                self.assertEqual((status, "262144 bytes at most" in err), (3, True))
+            else:
                 self.assertEqual((status, out, err.count("\n")), (5, "", 1), (command, path))
-            status, _, err = run("ask", command, "/dev/zero")
-            self.assertEqual((status, "262144 bytes at most" in err), (3, True))
 
     def test_numbers(self):
         zeros = self.file("zeros.dc", f"var p; infer slen = {'0' * 5000}5;")
