@@ -34,7 +34,7 @@ def merged(cubes: List[Cube]) -> List[Cube]:
     again = True
     while again:
         again = False
-        for place, cube in enumerate(cubes):
+        for cube in cubes:
             for name in cube:
                 turned = {**cube, name: not cube[name]}
                 if any(lies_in(turned, other) for other in cubes):

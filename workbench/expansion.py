@@ -147,6 +147,7 @@ class Expansion:
         self.copies: Dict[Tuple[Definition, Tuple[int, ...]], Copy] = {}
         self.contents: Dict[object, Copy] = {}
         self.pieces: List[Piece] = []
+        self.depth = 0  # of the macros that are being written
         self.own = {it.name for it in main.definitions if not it.numeric}
         self.own_at = {it.first: it for it in main.definitions}
         words = {token.text for token in main.tokens if is_name(token.text)}
@@ -175,7 +176,11 @@ class Expansion:
         key = (definition, numbers)
         if key not in self.copies:
             copy = Copy(definition, numbers)
+            self.depth += 1
+            if max(self.depth, len(self.copies)) > MOST_COPIES:
+                raise definition.source.fault(definition.first + 1, f"{definition.name} is one of more than {MOST_COPIES} macros; 256 may be written")
             copy.pieces = Rewriting(self, definition.source, definition.order, definition.body, definition.last, copy).pieces
+            self.depth -= 1
             parameters = tuple(name for name in definition.parameters if name not in definition.numeric)
             if definition.source is not self.main:
                 self.taken.update(parameters)
@@ -185,8 +190,6 @@ class Expansion:
             elif not definition.numeric:
                 copy.name = definition.name
             self.copies[key] = copy
-            if len(self.copies) > MOST_COPIES:
-                raise definition.source.fault(definition.first + 1, f"{definition.name} is one of more than {MOST_COPIES} macros with their numbers; 256 may be written")
         return self.copies[key]
 
     def statement(self, order: int, first: int, last: int) -> Optional[List[Piece]]:

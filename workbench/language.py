@@ -10,8 +10,7 @@ from typing import Any, Callable, Dict, Iterator, List, NamedTuple, Sequence, Tu
 
 sys.setrecursionlimit(100_000)
 
-MOST_BYTES = 262_144  # of a formula file
-MOST_TEXT = 134_217_728  # of the text of an observer or of an automaton
+MOST_BYTES, MOST_TEXT = 262_144, 134_217_728  # of a formula file; of the text of an observer or of an automaton
 Part = TypeVar("Part")
 
 RESERVED = "var define prop as infer ex all true false pt ext slen scount sdur".split()
@@ -90,8 +89,11 @@ class File:
 def read_text(path: str, most: int = MOST_BYTES) -> str:
     """The text of a formula file, a character for each byte: a line ends with a line feed alone, and a comment may have any bytes.
     Of a longer file it has one byte more than there may be, so that it is refused."""
-    with open(path, "rb") as file:
-        return file.read(most + 1).decode("latin-1")
+    try:
+        with open(path, "rb") as file:
+            return file.read(most + 1).decode("latin-1")
+    except OSError as error:
+        raise OSError(error.errno, error.strerror, path) from None
 
 
 def natural(digits: str) -> int:
@@ -153,7 +155,6 @@ class _Parser:
         return token
 
     def has(self, *wanted: str) -> str:
-        """The token where it is one of these, and it is gone past; else nothing."""
         return self.take(*wanted) if self.peek() in wanted else ""
 
     def word(self, what: str, is_right: Callable[[str], bool]) -> str:
@@ -295,5 +296,4 @@ def to_text(tree: Tree) -> str:
 
 def goal_text(variables: Sequence[str], goal: Union[Tree, str]) -> str:
     """The text of a file without macros; the goal is a tree or a text."""
-    declared = f"var {', '.join(variables)};\n" if variables else ""
-    return f"{declared}infer {goal if isinstance(goal, str) else to_text(goal)};\n"
+    return (f"var {', '.join(variables)};\n" if variables else "") + f"infer {goal if isinstance(goal, str) else to_text(goal)};\n"

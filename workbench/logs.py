@@ -270,4 +270,7 @@ def rows_of(path: str, variables: Sequence[str], columns: Mapping[str, str], kin
     kind = kind or kind_of(path)
     if kind == "csv" and (clock or period):
         raise LogFault("--clock and --period are for VCD files: each row of a CSV file is an instant")
-    return from_vcd(path, variables, columns, clock, period) if kind == "vcd" else from_csv(path, variables, columns)
+    try:
+        yield from from_vcd(path, variables, columns, clock, period) if kind == "vcd" else from_csv(path, variables, columns)
+    except OSError as error:
+        raise OSError(error.errno, error.strerror, path) from None

@@ -9,7 +9,6 @@ import os
 import signal
 import sys
 import tempfile
-import traceback
 from types import FrameType
 from typing import List, NoReturn, Optional, Sequence
 
@@ -40,6 +39,22 @@ class Shown(io.TextIOWrapper):
         return super().write(text.translate(PLAIN))
 
 
+class Errors(Shown):
+    """Standard error: where nobody can read it, that is no failure of the command."""
+
+    def write(self, text: str) -> int:
+        try:
+            return super().write(text)
+        except OSError:
+            return len(text)
+
+    def flush(self) -> None:
+        try:
+            super().flush()
+        except OSError:
+            pass
+
+
 def stop(number: int, _: Optional[FrameType]) -> NoReturn:
     """Ends the run by an exception, once: what it began is tidied up without being disturbed."""
     quieten()
@@ -59,10 +74,13 @@ def prepare() -> None:
     for name in ("stdout", "stderr"):
         stream = getattr(sys, name)
         if stream is None:  # it is closed
+            if name == "stderr":
+                sys.stderr = open(os.devnull, "w", encoding="utf-8")
             continue
         if not isinstance(stream, Shown):
             stream.flush()
-            setattr(sys, name, Shown(stream.detach(), encoding=stream.encoding, errors="backslashreplace", line_buffering=name == "stderr"))
+            kind, encoding = Errors if name == "stderr" else Shown, stream.encoding
+            setattr(sys, name, kind(stream.detach(), encoding=encoding, errors="backslashreplace", line_buffering=name == "stderr"))
     tempfile.gettempdir()  # it writes a file to find out, and so leaves none
     for number in SIGNALS:
         if signal.getsignal(number) != signal.SIG_IGN:
@@ -116,9 +134,16 @@ def told(error: BaseException, name: str) -> int:
     if isinstance(error, (Malformed, Fault)):
         complain(f"{name}: {error}")
         return 10 if isinstance(error, Malformed) else 3
-    place = traceback.extract_tb(error.__traceback__)[-1]
-    complain(f"{name}: a fault of the workbench itself: {type(error).__name__}: {error} ({os.path.basename(place.filename)}:{place.lineno})")
+    complain(f"{name}: a fault of the workbench itself: {type(error).__name__}: {error} ({place_of(error)})")
     return NO_PROGRAM
+
+
+def place_of(error: BaseException) -> str:
+    """The file and the line where an error came up."""
+    place = error.__traceback__
+    while place is not None and place.tb_next is not None:
+        place = place.tb_next
+    return f"{os.path.basename(place.tb_frame.f_code.co_filename)}:{place.tb_lineno}" if place else "nowhere"
 
 
 def closed() -> None:

@@ -6,7 +6,6 @@ import subprocess
 import sys
 import tempfile
 import threading
-from concurrent.futures import ThreadPoolExecutor
 from contextlib import contextmanager
 from dataclasses import dataclass
 from typing import TYPE_CHECKING, Iterator, List, NamedTuple, Optional, Sequence, Set, TextIO
@@ -15,6 +14,7 @@ from answers import SHAPES, Malformed, Word, check_shape, words_of
 from automaton import Automaton, read_automaton
 
 if TYPE_CHECKING:
+    from concurrent.futures import ThreadPoolExecutor
     from kept import Kept
 
 ROOT = os.path.dirname(os.path.dirname(os.path.abspath(__file__)))
@@ -145,8 +145,9 @@ class Program:
                 process.kill()
 
     @contextmanager
-    def side_by_side(self, jobs: int) -> Iterator[ThreadPoolExecutor]:
+    def side_by_side(self, jobs: int) -> Iterator["ThreadPoolExecutor"]:
         """A pool for questions. Where what it is used for is broken off, they are too; after a refusal others may be asked."""
+        from concurrent.futures import ThreadPoolExecutor  # it is slow to load, and most commands need none
         pool = ThreadPoolExecutor(jobs)
         try:
             yield pool

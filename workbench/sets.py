@@ -85,14 +85,20 @@ class Survey:
         answers.alone.update(zip(good, self.each("alone", self.one, good)))
         sound = [it for it in good if (answers.alone[it] or Finding("stuck")).kind in SOUND]
         answers.pairs = self.pairs(sound)
-        self.each("pairs", self.pair, answers.pairs)
-        self.group(sound)
-        large = [group for group in answers.groups if len(group) > 2]
-        self.each("what follows in groups", self.following, large)
+        if not self.waits():
+            self.each("pairs", self.pair, answers.pairs)
+        if not self.waits():
+            self.group(sound)
+            self.each("what follows in groups", self.following, [group for group in answers.groups if len(group) > 2])
         answers.late = self.questions.late
         answers.unasked += self.questions.unasked
         self.sort()
         return answers
+
+    def waits(self) -> bool:
+        """Whether questions are asked elsewhere on whose answers it depends what else is asked."""
+        kept = self.questions.program.kept
+        return isinstance(kept, Planned) and bool(kept.planned)
 
     def sort(self) -> None:
         """The answers in the order of the requirements, whatever came first."""

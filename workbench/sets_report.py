@@ -14,6 +14,7 @@ if TYPE_CHECKING:
     from sets import Answers
 
 
+ROOM = 16  # characters of a sentence: where there are fewer it is left out of the table
 FEW = 40  # questions that were not asked and are listed without --all
 
 
@@ -55,10 +56,16 @@ def table(answers: "Answers") -> List[str]:
     rows = [["requirement"] + ["id"] * ids + ["alone", "stuck after"] + ["controller"] * bool(answers.inputs) + ["names"]]
     for it in answers.requirements:
         rows.append([it.name] + [it.id] * ids + cells(answers, it, it in unasked) + [" ".join(it.variables)])
-    widths = [min(40, max(len(row[place]) for row in rows)) for place in range(len(rows[0]) - 1)]
-    lines = ["  ".join(f"{cell:{width}}" for cell, width in zip(row, widths)) + "  " + row[-1] for row in rows]
+    widths = [min(40, max(len(row[place]) for row in rows)) for place in range(len(rows[0]))]
+    lines = ["  ".join(f"{cell:{width}}" for cell, width in zip(row, widths)) for row in rows]
     said = [""] + [it.sentence for it in answers.requirements]
-    return [f"{line}  {text}" if text and ids else line for line, text in zip(lines, said)]
+    return [with_sentence(line, text).rstrip() for line, text in zip(lines, said)]
+
+
+def with_sentence(line: str, said: str) -> str:
+    """A line of the table, and after it what there is room for of a sentence."""
+    room = terminal_width() - len(line) - 2
+    return f"{line}  {textwrap.shorten(said, room, placeholder=' ..')}" if room >= ROOM else line
 
 
 def cells(answers: "Answers", it: Requirement, is_unasked: bool) -> List[str]:

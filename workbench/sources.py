@@ -11,6 +11,7 @@ import language
 from language import MOST_BYTES
 from shapes import SourceFault, Tokens, is_name
 
+MOST_LEVELS = 100  # of files that use each other
 FIRST_WORDS = ("use", "const", "var", "define", "prop", "infer")
 ROOT = os.path.dirname(os.path.dirname(os.path.abspath(__file__)))
 
@@ -106,6 +107,8 @@ class Source(Tokens):
             raise self.fault(first + 1, f"there is no file {name}, neither beside this file nor in {ROOT}")
         files, place = self.reading.files, identity(path)
         if place not in files:
+            if list(files.values()).count(None) > MOST_LEVELS:
+                raise self.fault(first + 1, f"this is used by more than {MOST_LEVELS} files, each of which uses the next")
             files[place] = None
             files[place] = Source(path, path if name.startswith('"/') else os.path.relpath(path), language.read_text(path), self.reading)
         used = files[place]
@@ -193,11 +196,12 @@ class Source(Tokens):
 
     def said(self, definition: "Definition") -> int:
         """A number for the words of a macro and of all that it calls: those that say the same have the same."""
-        if definition.order not in self.contents:
-            words = self.words(definition.first, definition.last)
-            called = [self.meaning(word, definition.order, definition.parameters) for word in words[2:]]
-            calls = tuple(it.source.said(it) for it in called if it is not None)
-            self.contents[definition.order] = self.reading.number((tuple(words), calls))
+        for own in self.definitions if definition.order not in self.contents else ():  # in their order, so that what each calls is known
+            if own.order not in self.contents:
+                words = self.words(own.first, own.last)
+                called = [self.meaning(word, own.order, own.parameters) for word in words[2:]]
+                calls = tuple(it.source.said(it) for it in called if it is not None)
+                self.contents[own.order] = self.reading.number((tuple(words), calls))
         return self.contents[definition.order]
 
 def identity(path: str) -> Tuple[int, int]:

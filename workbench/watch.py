@@ -41,12 +41,12 @@ class Watch:
         """Takes some more rows; `last` where no others follow."""
         word = [letter for _, letter in rows]
         answers = self.program.replay(observers.from_state(self.observer, self.state), word)
-        self.note(rows, word, [place for place, answer in enumerate(answers) if not answer])
+        self.note(rows, [place for place, answer in enumerate(answers) if not answer])
         if not last:
             self.go_on(word)
         self.count += len(rows)
 
-    def note(self, rows: Sequence[Row], word: Sequence[str], broken: Sequence[int]) -> None:
+    def note(self, rows: Sequence[Row], broken: Sequence[int]) -> None:
         """Keeps what is told of these rows."""
         begun = 0 if self.violations else broken[0] + 1 if broken else len(rows)
         self.broken += len(broken)

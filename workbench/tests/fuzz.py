@@ -119,7 +119,7 @@ def judge_tests(case: Case) -> None:
 
 
 def judge_watch(case: Case) -> None:
-    """In pieces of 3 rows, from a dump and from a CSV file."""
+    """From a dump in pieces of 3 rows, and from a CSV file in one."""
     broken = [length for length in range(1, 7) if not satisfies(case.goals[0], case.word[:length])]
     with tempfile.TemporaryDirectory() as room:
         for name, text in (("a.vcd", vcd("pq", case.word)), ("a.csv", "q,p\n" + "".join(f"{letter[1]},{letter[0]}\n" for letter in case.word))):
@@ -128,7 +128,7 @@ def judge_watch(case: Case) -> None:
                 file.write(text)
             rows = rows_of(path, ["p", "q"], {}, period=1 if name == "a.vcd" else None)
             watch = Watch(case.program, case.texts[0], False)
-            for part, last in pieces(rows, 3):
+            for part, last in pieces(rows, 3 if name == "a.vcd" else 6):
                 watch.piece(part, last)
             assert [at + 1 for at, _, _ in watch.violations] == broken and watch.count == 6, name
 

@@ -3,6 +3,7 @@ import os
 import subprocess
 import tempfile
 import unittest
+from concurrent.futures import ThreadPoolExecutor
 
 ROOT = os.path.dirname(os.path.dirname(os.path.dirname(os.path.abspath(__file__))))
 BUILT = os.path.join(ROOT, "crates", "dcvalid", "out", "dcvalid")
@@ -22,6 +23,12 @@ def run(script, *words, stdin="", program=None, **variables):
     done = subprocess.run([os.path.join(ROOT, script), *words], input=stdin.encode("latin-1"), env=environment, stdout=subprocess.PIPE,
                           stderr=subprocess.PIPE)
     return done.returncode, done.stdout.decode(), done.stderr.decode()
+
+
+def each(question, cases):
+    """The answers for all cases, four at a time."""
+    with ThreadPoolExecutor(4) as pool:
+        return list(pool.map(question, cases))
 
 
 class WithFolder(unittest.TestCase):

@@ -32,6 +32,11 @@ PLACES = (
     ("var p; define p as pt; infer pt;", "taken", 14, 1, 15, "already"),
     ("var p; infer ex q. [[+q]];", "shift", 21, 1, 22, "no value of its own"),
     ("var " + "x" * 25 + "; infer pt;", "name", 4, 1, 5, "this one has 25"),
+    ("var p, q; infer G(p => F q);", "syntax", 25, 1, 26, "no G, F, X and U"),
+    ("var p, q; infer <p> U <q>;", "syntax", 20, 1, 21, "no G, F, X and U"),
+    ("var p; infer slen <= 10_000;", "byte", 23, 1, 24, "digits alone"),
+    ("var p; define f(a) as [[a]]; infer f(3);", "syntax", 37, 1, 38, "Arguments are propositions"),
+    ("var p, q, infer <p>;", "syntax", 10, 1, 11, "no comma"),
     ("automaton 2\nvariables p\n", "syntax", 0, 1, 1, "This is the text of an automaton"),
     ("not valid\nsatisfiable\n", "syntax", 0, 1, 1, "This is a report of check"),
 )
@@ -52,6 +57,10 @@ MISTAKES = (
     ("var p, q; infer [[p != q]];", "an operator && || => <=>, an end ]]", "write !(p <=> q) for p != q"),
     ("var p; infer slen != 3;", "a comparison = < <= > >=", "write !(slen = 3) for slen != 3"),
     ("var p; infer slen == 3;", "a number 0 .. 9999", "write = for =="),
+    ("var p; infer count p <= 3;", "an operator ^ && || => <=> *, an end ;", "write scount for count"),
+    ("var p; infer slen \xe2\x89\xa4 3;", "a comparison = < <= > >=", "write <= for \u2264"),
+    ("var p; infer slen <= 1_000;", "an operator ^ && || => <=> *, an end ;", "write 1000 for 1_000"),
+    ("var p, q, infer <p>;", "a new name", "write ; for ,"),
     ("var p; infer slen <= n;", "a number 0 .. 9999", "write a number for n"),
     ("var p; infer sdur p < ;", "a number 0 .. 9999", "put a number before ;"),
     ("var p, q; infer scount p && q >= 2;", "a comparison = < <= > >=", "write scount (p && q) for scount p && q"),
@@ -96,21 +105,27 @@ class Faults(WithFolder):
         return error.splitlines()
 
     def test_places(self):
-        for text, kind, offset, row, column, hint in PLACES:
+        paths = [self.file(f"text{number}.dc", row[0]) for number, row in enumerate(PLACES)]
+        plain = support.each(lambda path: run(os.path.abspath(support.PROGRAM), "check", path), paths)
+        said = support.each(lambda path: run("explain", "check", path), paths)
+        for (text, kind, offset, row, column, hint), path, answer, explained in zip(PLACES, paths, plain, said):
             with self.subTest(text=text):
-                status, _, line = run(os.path.abspath(support.PROGRAM), "check", self.file("text.dc", text))
-                self.assertEqual((status, line.strip()), (3, f"fault {kind} at {offset}"))
-                lines = self.explained(text)
-                self.assertTrue(lines[0].startswith(f"{self.folder}/text.dc:{row}:{column}: fault {kind}"), lines[0])
+                self.assertEqual((answer[0], answer[2].strip()), (3, f"fault {kind} at {offset}"))
+                self.assertEqual(explained[:2], (3, ""))
+                lines = explained[2].splitlines()
+                self.assertTrue(lines[0].startswith(f"{path}:{row}:{column}: fault {kind}"), lines[0])
                 self.assertEqual(len(lines[2]), column + 8)
                 self.assertRegex("\n".join(lines[3:]), hint)
 
     def test_mistakes(self):
         program = Program()
-        for text, stands, change in MISTAKES:
+
+        def described(row):
+            message = program.run(["check", "/dev/stdin"], row[0]).error.strip()
+            return "\n".join(faults.described("text.dc", row[0], message, program))
+
+        for (text, stands, change), said in zip(MISTAKES, support.each(described, MISTAKES)):
             with self.subTest(text=text):
-                message = program.run(["check", "/dev/stdin"], text).error.strip()
-                said = "\n".join(faults.described("text.dc", text, message, program))
                 found = re.search(r"^  May stand here: (.*)$", said, re.M)
                 self.assertEqual(found and found.group(1), stands)
                 found = re.search(r"^  No fault is left if you (.*)\.$", said, re.M)

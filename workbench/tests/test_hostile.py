@@ -8,7 +8,7 @@ import time
 import unittest
 import xml.dom.minidom
 
-from support import PROGRAM, ROOT, WithFolder, needs_program, run
+from support import PROGRAM, ROOT, WithFolder, each, needs_program, run
 
 sys.path.insert(0, os.path.join(ROOT, "workbench"))
 from answers import Malformed, check_shape, words_of  # noqa: E402
@@ -53,8 +53,8 @@ class Programs(WithFolder):
 
     def test_no_command_answers_by_a_program_that_is_killed(self):
         program = self.program('REAL "$@" | head -n 3; kill -9 $$')
-        for command in COMMANDS:
-            status, out, err = run("ask", *self.words(command), program=program)
+        asked = each(lambda command: run("ask", *self.words(command), program=program), COMMANDS)
+        for command, (status, out, err) in zip(COMMANDS, asked):
             self.assertEqual((status, "SIGKILL" in err, err.count("\n")), (125, True, 1), (command, out, err))
             self.assertNotRegex(out, "holds|words|0 states|valid")
 
@@ -222,12 +222,12 @@ class Streams(WithFolder):
             self.assertEqual((status, "Traceback" in err), (6, False), words)
 
     def test_inputs_that_cannot_be_read(self):
-        for command in ("draw", "expand"):
-            for path in (self.folder, os.path.join(self.folder, "none")):
-                status, out, err = run("ask", command, path)
+        cases = [(command, path) for command in ("draw", "expand") for path in (self.folder, os.path.join(self.folder, "none"), "/dev/zero")]
+        for (command, path), (status, out, err) in zip(cases, each(lambda words: run("ask", *words), cases)):
+            if path == "/dev/zero":
+                self.assertEqual((status, "262144 bytes at most" in err), (3, True))
+            else:
                 self.assertEqual((status, out, err.count("\n")), (5, "", 1), (command, path))
-            status, _, err = run("ask", command, "/dev/zero")
-            self.assertEqual((status, "262144 bytes at most" in err), (3, True))
 
     def test_numbers(self):
         zeros = self.file("zeros.dc", f"var p; infer slen = {'0' * 5000}5;")
@@ -290,6 +290,16 @@ class Growth(WithFolder):
         self.file("lib.dc", chain + "infer pt;\n")
         source = load(self.file("use.dc", 'use "lib.dc";\nuse "other.dc";\ninfer m59;\n' if self.file("other.dc", chain + "infer pt;\n") else ""), "use.dc")
         self.assertFalse(source.is_ambiguous(source.visible()["m59"][0]))
+
+    def test_chains_that_are_too_long(self):
+        """Of macros in another file, and of files."""
+        self.file("lib.dc", "define m0 as pt;\n" + "".join(f"define m{level} as m{level - 1};\n" for level in range(1, 11_000)) + "infer pt;\n")
+        for level in range(1, 300):
+            self.file(f"f{level}.dc", f'use "f{level - 1}.dc";\ninfer pt;\n')
+        self.file("f0.dc", "infer pt;\n")
+        for text, said in (('use "lib.dc";\ninfer m10999;\n', "more than 1000 macros"), ('use "f299.dc";\ninfer pt;\n', "more than 100 files")):
+            status, _, err = run("ask", "expand", self.file("a.dc", text))
+            self.assertEqual((status, said in err), (3, True), err[-300:])
 
     @needs_program
     def test_suites_of_many_states(self):

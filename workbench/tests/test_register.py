@@ -2,7 +2,7 @@
 import os
 import unittest
 
-from support import WithFolder, needs_program, run
+from support import WithFolder, each, needs_program, run
 
 TABLE = """id;sentence;pattern;arguments
 REQ-1;"Each ask is served; soon.";bounded_response;ask && !off, (served || off), 100
@@ -29,8 +29,9 @@ class Register(WithFolder):
         self.assertEqual(run("ask", "register", folder)[1], TABLE + "own;Something else.;-;\n")
 
     def test_slips(self):
-        for text, said in SLIPS:
-            status, out, err = run("ask", "register", self.file("a.csv", text), "--out", os.path.join(self.folder, "none"))
+        paths = [self.file(f"a{number}.csv", text) for number, (text, _) in enumerate(SLIPS)]
+        answers = each(lambda path: run("ask", "register", path, "--out", os.path.join(self.folder, "none")), paths)
+        for (text, said), (status, out, err) in zip(SLIPS, answers):
             self.assertEqual((status, out), (2, ""), text)
             self.assertIn(said, err)
         self.assertFalse(os.path.exists(os.path.join(self.folder, "none")))

@@ -2,7 +2,7 @@
 import re
 import unittest
 
-from support import WithFolder, needs_program, run
+from support import WithFolder, each, needs_program, run
 
 LOCK = """// An ask is served.
 use "patterns/bounded_response.dc";
@@ -22,13 +22,12 @@ class Sources(WithFolder):
         self.log = self.file("lock.csv", "ask,open\n1,0\n0,0\n0,0\n0,0\n")
 
     def test_each_command_answers_as_for_the_file_of_the_language(self):
-        for words in (("draw",), ("draw", "--automaton"), ("tests",), ("tables", "--name", "a", "--out", self.folder), ("watch", self.log), ("verify", "--observer"),
-                      ("explain", "check"), ("explain", "c"), ("explain", "lustre"), ("explain", "stuck"), ("explain", "synth", "--inputs", "1")):
-            found = []
-            for path in (self.path, self.plain):
-                place = 2 if words[0] == "explain" else 1
-                status, out, err = run("ask", *words[:place], path, *words[place:])
-                found.append((status, out.replace("plain.dc", "lock.dc"), err))
+        for words in (("draw",), ("tests",), ("tables", "--name", "a", "--out", "OUT"), ("watch", self.log), ("verify", "--observer"),
+                      ("explain", "c"), ("explain", "synth", "--inputs", "1")):
+            place = 2 if words[0] == "explain" else 1
+            answers = each(lambda path: run("ask", *words[:place], path, *(it.replace("OUT", path + ".out") for it in words[place:])),
+                           (self.path, self.plain))  # pylint: disable=cell-var-from-loop
+            found = [(status, out.replace("plain.dc", "lock.dc"), err) for status, out, err in answers]
             self.assertEqual(found[0], found[1], words)
             self.assertEqual(found[0][2], "")
         self.assertEqual(run("explain", "implies", self.path, self.plain)[0], 0)
@@ -44,11 +43,12 @@ class Sources(WithFolder):
         fault = self.file("fault.dc", LOCK.replace("ask, open, wait", "ask, opn, wait"))
         over = self.file("over.dc", "const n = 200;\nvar p, q;\ndefine many(x, k) as scount x = k;\ninfer many(p, n) &&\n  many(q, n);\n")
         notation = self.file("notation.dc", "const n = 3 4;\nvar p; infer <p>;\n")
-        for words in (("review",), ("draw",), ("tests",), ("tables",), ("verify",), ("watch", self.log), ("explain", "check")):
-            for path, status, said in ((fault, 3, "fault.dc:5:29: fault unknown"), (over, 4, "over.dc:4:7: over the budget"),
-                                       (notation, 3, "notation.dc:1:13: a number is expected here")):
-                place = 2 if words[0] == "explain" else 1
-                found = run("ask", *words[:place], path, *words[place:])
+        for words in (("review",), ("tables",), ("verify",), ("watch", self.log), ("explain", "check")):
+            cases = ((fault, 3, "fault.dc:5:29: fault unknown"), (over, 4, "over.dc:4:7: over the budget"),
+                     (notation, 3, "notation.dc:1:13: a number is expected here"))
+            place = 2 if words[0] == "explain" else 1
+            answers = each(lambda case: run("ask", *words[:place], case[0], *words[place:]), cases)  # pylint: disable=cell-var-from-loop
+            for (path, status, said), found in zip(cases, answers):
                 if words == ("verify",) and path == over:
                     self.assertEqual(found[0], 3)
                     continue
