@@ -5,6 +5,8 @@ import importlib.util
 from types import ModuleType
 from typing import NamedTuple, Optional, Tuple
 
+import limits
+
 
 class Option(NamedTuple):
     name: str
@@ -19,8 +21,8 @@ class Command(NamedTuple):
     options: Tuple[Option, ...] = ()
 
 
-STATES = Option("--states", "N", "the most states of a step, 1 to 32000 (30000 where it is not given)")
-NODES = Option("--nodes", "N", "the most diagram nodes of a step, 1 to 1000000 (1000000 where it is not given)")
+STATES = Option("--states", "N", f"the most states of a step, 1 to {limits.STATES} ({limits.DEFAULT_STATES} where it is not given)")
+NODES = Option("--nodes", "N", f"the most diagram nodes of a step, 1 to {limits.NODES} ({limits.NODES} where it is not given)")
 LIMITS = (STATES, NODES)
 SHOW = Option("--show", "", "writes each file that the program is asked about on standard error")
 
@@ -50,7 +52,7 @@ PROGRAM = (
     Command("implies", "FILE FILE", "whether the first formula implies the second, or a shortest behaviour that shows that it does not", LIMITS),
     Command("stuck", "FILE", "whether what has kept to the formula so far can always go on, or a shortest behaviour that cannot", LIMITS),
     Command("synth", "FILE", "a controller of the variables after the first N, or a strategy of these that beats each controller",
-            (Option("--inputs", "N", "how many of the variables, the first ones, are inputs (0 to 16)"),) + LIMITS),
+            (Option("--inputs", "N", f"how many of the variables, the first ones, are inputs (0 to {limits.VARIABLES})"),) + LIMITS),
     Command("certify", "FILE", "whether an automaton's words show that it is minimal"),
     Command("convert", "FILE", "an automaton's text in version 1 or 2", (Option("--to", "N", "the version, 1 or 2"),)),
     Command("replay-lustre", "OBSERVER TRACE", "what an observer in Lustre answers at each instant of a trace"),

@@ -8,12 +8,12 @@ from collections import Counter
 from itertools import chain, count
 from typing import Dict, Iterable, Iterator, List, NamedTuple, Optional, Sequence, Tuple, Union
 
+import limits
 from language import RESERVED, Token
 from shapes import Tokens, is_name, is_number
 from sources import Definition, Source
 
-LONGEST = 24  # characters of a name
-MOST_COPIES = 1_000  # of macros; the program takes 256
+MOST_COPIES = 1_000  # of macros, more than the program takes
 
 
 class Piece(NamedTuple):
@@ -167,7 +167,7 @@ class Expansion:
 
     def renamed(self, source: Source, names: Iterable[str]) -> Dict[str, str]:
         """Parameters and quantified names of a used file that the file itself has as macros get other names."""
-        return {} if source is self.main else {name: f"{name[:LONGEST - 2]}_0" for name in names if name in self.own}
+        return {} if source is self.main else {name: f"{name[:limits.NAME - 2]}_0" for name in names if name in self.own}
 
     # ---- macros
 
@@ -178,7 +178,7 @@ class Expansion:
             copy = Copy(definition, numbers)
             self.depth += 1
             if max(self.depth, len(self.copies)) > MOST_COPIES:
-                raise definition.source.fault(definition.first + 1, f"{definition.name} is one of more than {MOST_COPIES} macros; 256 may be written")
+                raise definition.source.fault(definition.first + 1, f"{definition.name} is one of more than {MOST_COPIES} macros; {limits.MACROS} may be written")
             copy.pieces = Rewriting(self, definition.source, definition.order, definition.body, definition.last, copy).pieces
             self.depth -= 1
             parameters = tuple(name for name in definition.parameters if name not in definition.numeric)
@@ -264,10 +264,10 @@ class Expansion:
         for copy in copies:
             base, numbers = copy.definition.name, "".join(f"_{value}" for value in copy.numbers)
             wished = [base] if bases[base] == 1 or not numbers else []
-            wished += [base[:max(1, LONGEST - len(numbers))] + numbers] if numbers else [base]
+            wished += [base[:max(1, limits.NAME - len(numbers))] + numbers] if numbers else [base]
             more = (f"{numbers}_{number}" for number in count(2))
-            further = (base[:max(1, LONGEST - len(end))] + end[-LONGEST + 1:] for end in more)
-            copy.name = next(name for name in chain(wished, further) if len(name) <= LONGEST and name not in self.taken)
+            further = (base[:max(1, limits.NAME - len(end))] + end[-limits.NAME + 1:] for end in more)
+            copy.name = next(name for name in chain(wished, further) if len(name) <= limits.NAME and name not in self.taken)
             self.taken.add(copy.name)
 
     def origin(self, place: int) -> Tuple[Piece, int]:

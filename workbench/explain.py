@@ -9,6 +9,7 @@ from typing import Dict, List, Sequence, TextIO, Tuple
 
 import faults
 import hints
+import limits
 from answers import words_of
 from automaton import Automaton
 from commands import PROGRAM
@@ -206,7 +207,7 @@ def counts(output: str) -> List[str]:
     said = {
         "formulas": "{0} formula{1} over x, y and z, drawn one after another", "valid": "{0} of them valid: each behaviour satisfies such a formula",
         "satisfiable": "{0} satisfiable: some behaviour satisfies such a formula",
-        "over": "{0} over the limits: a step has more than 30000 states or 1000000 nodes, and nothing else is said of such a formula",
+        "over": f"{{0}} over the limits: a step has more than {limits.DEFAULT_STATES} states or {limits.NODES} nodes, and nothing else is said of such a formula",
         "states": "{0} states in the minimal automata of all others together",
     }
     found = [line.split() for line in output.splitlines()]

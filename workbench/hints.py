@@ -2,6 +2,7 @@
 import re
 from typing import Callable, List, Sequence, Tuple
 
+import limits
 from spots import Spot
 
 FORMULAS = ("slen", "scount", "sdur", "pt", "ext", "<", "[", "[[", "<>", "[]", "^")  # what begins or joins formulas alone
@@ -47,31 +48,31 @@ BYTES = (
 
 # Kinds of faults that mean the same wherever they stand; the word at the place is put in.
 OTHERS = {
-    "number": ["A number is 9999 at most."],
-    "nest": ["This is the 501st of the tokens ( ! <> [] ex all => * - + in one definition or in the goal; there may be 500. Give parts of it names "
+    "number": [f"A number is {limits.NUMBER} at most."],
+    "nest": [f"More than {limits.NESTED} of the tokens ( ! <> [] ex all => * - + are one inside another in one definition or in the goal. Give parts of it names "
              "of their own by define."],
-    "length": ["A file has 262144 bytes at most."],
-    "many": ["There may be 16 variables, 256 macros, and 8 parameters of a macro; this is one more."],
+    "length": [f"A file has {limits.FILE_BYTES} bytes at most."],
+    "many": [f"There may be {limits.VARIABLES} variables, {limits.MACROS} macros, and {limits.PARAMETERS} parameters of a macro; this is one more."],
     "duplicate": ["The name {word} stands a second time in its list."],
     "taken": ["The name {word} is that of a variable or a macro already."],
     "unknown": ["The name {word} means nothing here.",
                 "  Is it spelt as it was declared? A macro sees the variables, its own parameters, and the macros before it."],
     "arity": ["The macro {word} is used with another number of arguments than it has parameters."],
-    "size": ["The goal, with each macro in the place of its call, has more than 65536 nodes."],
-    "depth": ["The goal, with each macro in the place of its call, nests more than 512 nodes one below another."],
-    "slots": ["Declared variables, different prior and next propositions, and quantifiers that stand one inside another, are more than 32 together."],
+    "size": [f"The goal, with each macro in the place of its call, has more than {limits.GOAL_NODES} nodes."],
+    "depth": [f"The goal, with each macro in the place of its call, nests more than {limits.GOAL_DEPTH} nodes one below another."],
+    "slots": [f"Declared variables, different prior and next propositions, and quantifiers that stand one inside another, are more than {limits.SLOTS} together."],
     "shift": ["A quantified variable has no value of its own at another instant: -P and +P may look at declared variables alone."],
 }
 
 MESSAGES = (
     (r"fault declarations", "Both files have to declare the same variables in the same order."),
-    (r"fault outputs", "The first variables, as many as --inputs says, are the inputs: that is more than the file declares, or it leaves more than 8 outputs."),
+    (r"fault outputs", f"The first variables, as many as --inputs says, are the inputs: that is more than the file declares, or it leaves more than {limits.OUTPUTS} outputs."),
     (r"budget .* in product", "Each of the two automata is within the limit, but what is compared has a state for each pair that a behaviour leads to."),
     (r"fault write", "The report could not be written: the disk is full, or the reader of the output has gone."),
     (r"fault memory", "Memory ran out. A smaller --states or --nodes ends such a run with the step that is too large."),
     (r"fault line ", "That line of the trace, counted from 1, is no instant: a 0 or 1 for each input of the observer, or - where it has none."),
     (r"fault trace empty", "The trace has no line."),
-    (r"fault trace length", "A trace has 1000000 lines at most."),
+    (r"fault trace length", f"A trace has {limits.TRACE_LINES} lines at most."),
     (r"fault observer length", "An observer has 134217728 bytes at most."),
     (r"fault automaton length", "The text of an automaton has 134217728 bytes at most."),
 )
@@ -85,7 +86,7 @@ def of_fault(kind: str, spot: Spot) -> List[str]:
     if kind == "syntax":
         return of_syntax(spot, word)
     if kind == "name":
-        return [f"A word has 24 characters at most; this one has {len(word)}."]
+        return [f"A word has {limits.NAME} characters at most; this one has {len(word)}."]
     if kind == "kind":
         return of_kind(spot, word)
     return [line.format(word=word) for line in OTHERS.get(kind, [])]
@@ -96,7 +97,7 @@ def of_byte(spot: Spot) -> List[str]:
     if spot.begins_with_mark:
         return lines + ["  The file begins with a byte order mark (the bytes EF BB BF). Save it without one."]
     if first == "_" and re.search(r"[0-9]$", spot.front):
-        return lines + ["  A number is digits alone, and 9999 at most."]
+        return lines + [f"  A number is digits alone, and {limits.NUMBER} at most."]
     if first == ":" and re.search(r"\b(ex|all)\s+\w+$", spot.before()[0]):
         return lines + ["  Behind a quantified name stands a full stop: ex q. [[q]]"]
     if first == ":":
@@ -132,7 +133,7 @@ def of_kind(spot: Spot, word: str) -> List[str]:
 
 
 def of_budget(what: str, limit: int, step: int) -> List[str]:
-    most = 32000 if what == "states" else 1000000
+    most = limits.STATES if what == "states" else limits.NODES
     return [f"Step {step} of the formula, whose part of the text begins here, needs more than {limit} {what}.",
             f'  docs/LANGUAGE.md, "The budget", says what helps; --{what} N sets the limit (up to {most}).']
 

@@ -4,9 +4,10 @@ import re
 from dataclasses import dataclass, field, replace
 from typing import Callable, Dict, FrozenSet, Iterable, Iterator, List, Optional, Sequence, Tuple
 
+import limits
 from language import File, Tree, parse, read_text, to_text
 
-MOST_NAMES = 16
+MOST_NAMES = limits.VARIABLES
 
 
 @dataclass(eq=False)

@@ -8,9 +8,11 @@ import sys
 from dataclasses import dataclass, field
 from typing import Any, Callable, Dict, Iterator, List, NamedTuple, Sequence, Tuple, TypeVar, Union
 
+import limits
+
 sys.setrecursionlimit(100_000)
 
-MOST_BYTES, MOST_TEXT = 262_144, 134_217_728  # of a formula file; of the text of an observer or of an automaton
+MOST_BYTES, MOST_TEXT = limits.FILE_BYTES, 134_217_728  # of a formula file; of the text of an observer or of an automaton
 Part = TypeVar("Part")
 
 RESERVED = "var define prop as infer ex all true false pt ext slen scount sdur".split()

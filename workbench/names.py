@@ -5,6 +5,7 @@ from functools import lru_cache
 from itertools import chain, count
 from typing import Callable, Dict, FrozenSet, List, Optional, Sequence, Tuple
 
+import limits
 from language import Fault, File, Tree, parse
 
 
@@ -19,7 +20,7 @@ def free_names(tree: Tree) -> FrozenSet[str]:
 def check_names(text: str) -> File:
     """The file of a text, in which each name is declared before it is used, is new in its scope, and is used as what it is."""
     def fresh(names: Sequence[str], most: int, others: Sequence[str], place: int = 0) -> None:
-        if len({*names}) < len(names) or len(names) > most or {*names} & {*others} or any(len(it) > 24 for it in names):
+        if len({*names}) < len(names) or len(names) > most or {*names} & {*others} or any(len(it) > limits.NAME for it in names):
             raise Fault(place, "a name that is taken, stands twice or is too long, or too many names")
 
     def look(tree: Tree, known: Dict[str, Tuple[str, int]]) -> None:
@@ -34,11 +35,11 @@ def check_names(text: str) -> File:
     file = parse(text)
     macros: List[str] = []
     known: Dict[str, Tuple[str, int]] = dict.fromkeys(file.variables, ("name", 0))
-    fresh(file.variables, 16, [])
+    fresh(file.variables, limits.VARIABLES, [])
     for macro in file.listed:
         macros.append(macro.name)
-        fresh(macros, 256, file.variables, macro.start)
-        fresh(macro.parameters, 8, macros, macro.start)
+        fresh(macros, limits.MACROS, file.variables, macro.start)
+        fresh(macro.parameters, limits.PARAMETERS, macros, macro.start)
         look(macro.body, {**known, **dict.fromkeys(macro.parameters, ("name", 0))})
         known[macro.name] = "call" if macro.kind == "define" else "name", len(macro.parameters)
     look(file.goal, known)

@@ -7,6 +7,7 @@ import difflib
 import re
 from typing import Callable, Dict, Iterable, Iterator, List, Sequence, Tuple, Union
 
+import limits
 from language import RELATIONS, RESERVED, TOKEN, Token, tokens_before
 from program import Fault, Program
 from spots import shown
@@ -108,7 +109,7 @@ def spoken(text: str, place: int, tokens: Sequence[str]) -> str:
     elif NAME in tokens:
         parts.append("a new name")
     if NUMBER in tokens:
-        parts.append("a number 0 .. 9999")
+        parts.append(f"a number 0 .. {limits.NUMBER}")
     if "=" in left:
         group("a comparison", RELATIONS)
     group("an operator", OPERATORS)

@@ -4,6 +4,7 @@ import itertools
 from dataclasses import replace
 from typing import Callable, Dict, FrozenSet, Iterable, Iterator, List, NamedTuple, Optional, Sequence, Set, Tuple, Union
 
+import limits
 import vacuity
 from answers import Word
 from expand import Text
@@ -197,8 +198,8 @@ def confirmed(requirement: Requirement, found: Union[Pair, str, None]) -> Union[
 
 def near_section(requirement: Requirement) -> List[str]:
     goal = expand(requirement.file)
-    if len(requirement.variables) > 15:
-        return ["(Not asked: with 16 variables none can be copied.)"]
+    if len(requirement.variables) == limits.VARIABLES:
+        return [f"(Not asked: with {limits.VARIABLES} variables none can be copied.)"]
     cases = [(variable, high) for variable in requirement.variables for high in (True, False)]
     answers = requirement.side_by_side(lambda variable, high: near_miss(requirement, goal, variable, high), cases)
     lines = []

@@ -7,6 +7,7 @@ import subprocess
 import tempfile
 from typing import Iterator, List, Optional, Sequence, Set, Tuple
 
+import limits
 import observers
 from automaton import Automaton, Choice, Diagram
 from program import Program
@@ -204,7 +205,7 @@ def run_drawn(program: Program, text: str, binary: Optional[str], tables: Tables
 
 def replayed(program: Program, observer: str, tables: Tables, words: Sequence[Sequence[str]]) -> List[str]:
     """What replay-c answers: in one run, by an input that restarts the observer, or with 16 variables, which leave no room for one, in a run each."""
-    if tables.variables < 16:
+    if tables.variables < limits.VARIABLES:
         trace = [("0" if instant else "1") + letter.strip("-") for word in words for instant, letter in enumerate(word)]
         answers = iter(program.replay(observers.restarted(observer), trace))
         return ["".join(str(int(next(answers))) for _ in word) for word in words]

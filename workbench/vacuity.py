@@ -1,6 +1,7 @@
 """The last question of `review`: parts of a requirement that do not matter, variables that decide nothing, values that never happen."""
 from typing import Dict, FrozenSet, Iterator, List, Optional, Tuple
 
+import limits
 from language import File, Tree, goal_text, to_text
 from names import expand
 from questions import Occurrence, Requirement
@@ -101,7 +102,7 @@ def needless_lines(requirement: Requirement) -> Iterator[str]:
 def by_itself(requirement: Requirement, tree: Tree) -> Optional[str]:
     """`always true` or `never true` where the part is, whatever its variables do; else nothing."""
     names = sorted({part.value for part in tree.walk() if part.kind == "name"})
-    if tree.kind in CONSTANTS + ("name", "pt", "ext") or len(names) > 16:
+    if tree.kind in CONSTANTS + ("name", "pt", "ext") or len(names) > limits.VARIABLES:
         return None
     text = to_text(tree)
     holds, fails = (f"<><{text}>", f"!<><!({text})>") if tree.is_proposition else (text, text)

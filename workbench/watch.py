@@ -5,6 +5,7 @@ import sys
 from collections import deque
 from typing import Deque, Dict, Iterator, List, MutableSequence, Sequence, Tuple
 
+import limits
 import observers
 from expand import Text
 from language import natural, parse
@@ -193,7 +194,7 @@ def judged(options: argparse.Namespace, program: Program, text: str, variables: 
             print(letter)
         return 0
     watch = Watch(program, text, options.rearm)
-    for part, last in pieces(rows, min(options.piece, 1_000_000)):
+    for part, last in pieces(rows, min(options.piece, limits.TRACE_LINES)):
         watch.piece(part, last)
     if watch.count == 0:
         raise LogFault(f"{options.log}: there is no instant")
