@@ -1,5 +1,5 @@
 //! What the text of an automaton says of its nodes and its states, and how such lines are put by a layout. The text itself and the observers of
-//! the automaton are made of this. The definitions stand in `specs/`, and their law in [`laws`].
+//! the automaton are made of this. The definitions are in `specs/`, and their law in [`laws`].
 #![tactic(auto)]
 
 pub mod laws;

@@ -1,4 +1,4 @@
-// Puts what is said of an automaton's variables, nodes and states, by the texts that stand around each part.
+// Puts what is said of an automaton's variables, nodes and states, by the texts around each part.
 ghost use Rattle.std.specs.Prelude.{◌≡◌, ◌<◌, ◌||◌, ◌++◌, [], List, if◌then◌else◌, length, map, decimal};
 ghost use Rattle.std.specs.List.{All, range_with_len, enumerate_from, flat_map};
 ghost use Rattle.dcv_io.specs.Putting.{Puts};
@@ -13,40 +13,40 @@ use dcv_language::Child;
 use dcv_syntax::Name;
 use itoa::Buffer;
 
-/// How a list is laid out: what stands before and after each, between every two, and in place of none.
+/// How a list is laid out: the text before and after each, between every two, and in place of none.
 #[derive(Clone, Copy)]
 pub struct Listing<'a> {
-    /// What stands before each.
+    /// The text before each.
     pub before: &'a [&'a [u8]],
-    /// What stands after each.
+    /// The text after each.
     pub after: &'a [u8],
-    /// What stands between every two.
+    /// The text between every two.
     pub between: &'a [u8],
-    /// What stands in place of an empty list.
+    /// The text in place of an empty list.
     pub none: &'a [&'a [u8]],
 }
 
-/// How a node's line is laid out: what stands before its number, before the name of its variable, before its children, and at the end.
+/// How a node's line is laid out: the text before its number, before the name of its variable, before its children, and at the end.
 #[derive(Clone, Copy)]
 pub struct NodeLayout<'a> {
-    /// What stands before the node's number.
+    /// The text before the node's number.
     pub number: &'a [&'a [u8]],
-    /// What stands before the name of its variable.
+    /// The text before the name of its variable.
     pub variable: &'a [&'a [u8]],
-    /// What stands before the child where the variable is true.
+    /// The text before the child where the variable is true.
     pub hi: &'a [u8],
-    /// What stands before the child where it is false.
+    /// The text before the child where it is false.
     pub lo: &'a [u8],
     /// What ends the line.
     pub end: &'a [u8],
 }
 
-/// How a state's line is laid out: what stands before its number, before its row, and at the end.
+/// How a state's line is laid out: the text before its number, before its row, and at the end.
 #[derive(Clone, Copy)]
 pub struct RowLayout<'a> {
-    /// What stands before the state's number.
+    /// The text before the state's number.
     pub number: &'a [&'a [u8]],
-    /// What stands before its row.
+    /// The text before its row.
     pub row: &'a [&'a [u8]],
     /// What ends the line.
     pub end: &'a [u8],
@@ -67,7 +67,7 @@ pub fn put_names<T: Target>(target: &mut T, listing: &Listing<'_>, names: &[Name
     }
 }
 
-// One of a list, after what stands between it and the one before.
+// One of a list, after the text between it and the one before.
 fn put_one<T: Target>(target: &mut T, listing: &Listing<'_>, between: &[u8], text: &[u8])
     ensures { Puts (T.standing target.old) (T.standing target.new) (between.now ++ one_listed listing.now text.now) }
 {
@@ -201,7 +201,7 @@ pub fn put_accepting<T: Target>(target: &mut T, listing: &Listing<'_>, auto: &Au
     put_unless(target, listing, some);
 }
 
-// The number of a state that accepts, after what stands between where some number stands before it. Says whether one stands now.
+// The number of a state that accepts, after the text between where some number stands before it. Returns whether there is one now.
 fn put_if_accepting<T: Target>(
     target: &mut T,
     listing: &Listing<'_>,
@@ -232,7 +232,7 @@ fn between_if<'a>(listing: &Listing<'a>, some: bool) -> &'a [u8]
     if some { listing.between } else { b"" }
 }
 
-// What stands in place of none, unless there is one.
+// The text in place of none, unless there is one.
 fn put_unless<T: Target>(target: &mut T, listing: &Listing<'_>, some: bool)
     ensures { Puts (T.standing target.old) (T.standing target.new) (if some then [] else in_turn listing.now.none.now) }
 {

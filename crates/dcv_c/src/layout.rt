@@ -165,7 +165,7 @@ fn put_parameters<T: Target>(target: &mut T, parameters: &[Text])
     }
 }
 
-// A parameter, after what stands between it and the one before.
+// A parameter, after the text between it and the one before.
 fn put_parameter<T: Target>(target: &mut T, between: &[u8], name: &[u8])
     ensures { Puts (T.standing target.old) (T.standing target.new) (text_in (Word between.now <> declaration name.now)) }
 {
@@ -344,7 +344,7 @@ fn put_tests<T: Target>(target: &mut T, names: &Names<'_>, tests: &[Test])
     }
 }
 
-// `name == number`, after what stands between it and the test before.
+// `name == number`, after the text between it and the test before.
 fn put_test<T: Target>(target: &mut T, between: &[u8], names: &Names<'_>, test: Test)
     ensures { Puts (T.standing target.old) (T.standing target.new) (text_in (Word between.now <> test_layout (seen_test names.now test))) }
 {

@@ -32,7 +32,7 @@
 //!
 //! Here `st` is the state between two steps, `nx` the state after the step, and `n0` the state to which the automaton's node 0 leads.
 //!
-//! The grammar, the rules of names, the meaning and the layout stand in `specs/`; what is true of them is in [`laws`].
+//! The grammar, the rules of names, the meaning and the layout are in `specs/`, and the laws about them in [`laws`].
 #![tactic(auto)]
 
 pub mod laws;

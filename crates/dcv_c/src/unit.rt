@@ -1,4 +1,4 @@
-// The tree of a unit. A name stands in it by its place: the statics first, then the parameters, then the locals.
+// The tree of a unit. A name is given by its place: the statics first, then the parameters, then the locals.
 ghost use Rattle.std.specs.Prelude.{◌≡◌, map};
 
 use dcv_observer::{Condition, Test};

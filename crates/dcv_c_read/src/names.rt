@@ -1,4 +1,4 @@
-// The names of a unit that stands in a text: each is judged, in the order of the text, and becomes a place. So the unit becomes a tree.
+// The names of a unit that a text has: each is judged, in the order of the text, and becomes a place. So the unit becomes a tree.
 ghost use Rattle.std.specs.Prelude.{◌≡◌, ◌≢◌, ◌<◌, ◌||◌, [], ◌++◌, ℕ, Bool, not, nat_lt, List, Option, map, IfOk, IfErr};
 ghost use Rattle.dcv_lexer.specs.Cuts.{Token};
 ghost use Rattle.dcv_observer.specs.Left.{seen};

@@ -23,13 +23,13 @@ pub(crate) enum Part<'a> {
     Statement(PlacedStatement<'a>),
     Statements(Vec<PlacedStatement<'a>>),
     Right(PlacedRight<'a>),
-    // What may stand after a name on a right side.
+    // The parts that may come after a name on a right side.
     Choice(Option<Box<PlacedChoice<'a>>>),
     Returned(PlacedReturned<'a>),
     Tests(Vec<PlacedTest<'a>>),
-    // What may stand after the first name of a result.
+    // The parts that may come after the first name of a result.
     Behind(Option<PlacedTests<'a>>),
-    // What is large stands on the heap, since each part has the size of the largest.
+    // Large parts are on the heap, since each part has the size of the largest.
     Step(Box<PlacedStep<'a>>),
     Unit(Box<PlacedUnit<'a>>),
 }

@@ -1,4 +1,4 @@
-// A unit as it stands in a text, with an item of the text for each name and number.
+// A unit as a text has it, with an item of the text for each name and number.
 use dcv_observer::Item;
 
 /// `name == number`.
@@ -10,7 +10,7 @@ pub struct PlacedTest<'a> {
     pub number: Item<'a>,
 }
 
-/// What stands after the name of a condition on a right side: `? item : otherwise`, or `== number ? item : otherwise`.
+/// The text after the name of a condition on a right side: `? item : otherwise`, or `== number ? item : otherwise`.
 #[derive(Clone, Copy)]
 pub struct PlacedChoice<'a> {
     /// Where the condition compares.
@@ -21,7 +21,7 @@ pub struct PlacedChoice<'a> {
     pub otherwise: Item<'a>,
 }
 
-/// What stands after the `=` of an assignment.
+/// The text after the `=` of an assignment.
 #[derive(Drop)]
 pub enum PlacedRight<'a> {
     Plain(Item<'a>),
@@ -30,7 +30,7 @@ pub enum PlacedRight<'a> {
 
 /// A statement of a step.
 ///
-/// What is large stands on the heap, since each statement, and each part of a body, has the size of the largest.
+/// Large parts are on the heap, since each statement, and each part of a body, has the size of the largest.
 #[derive(Drop)]
 pub enum PlacedStatement<'a> {
     /// `left = right;`.
@@ -52,7 +52,7 @@ pub struct PlacedWhen<'a> {
     pub item: Item<'a>,
 }
 
-/// What stands after the name of the first test: `== number`, and `|| name == number` any number of times.
+/// The text after the name of the first test: `== number`, and `|| name == number` any number of times.
 #[derive(Drop)]
 pub struct PlacedTests<'a> {
     /// What the first test compares with.
@@ -61,7 +61,7 @@ pub struct PlacedTests<'a> {
     pub others: Vec<PlacedTest<'a>>,
 }
 
-/// What stands after `return`.
+/// The text after `return`.
 #[derive(Drop)]
 pub enum PlacedReturned<'a> {
     Fixed(Item<'a>),

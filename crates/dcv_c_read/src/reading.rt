@@ -35,7 +35,7 @@ pub fn read(alloc: Global, bytes: &[u8]) -> Result<CUnit, ObsFault>
     Ok(unit)
 }
 
-// The unit that stands in a text.
+// The unit that a text has.
 fn placed_unit<'a>(alloc: Global, text: &'a [u8]) -> Result<Box<PlacedUnit<'a>>, ObsFault>
     requires { length text.now < 2 ^ 32 }
     ensures spelled { IfOk result (λ placed. Spells text.now (seen_unit placed.value)) }

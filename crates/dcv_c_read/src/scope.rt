@@ -13,14 +13,14 @@ use dcv_c::ObsFault;
 use dcv_observer::{Declared, Item, broken};
 use std::alloc::Global;
 
-/// What is told of a name where it is declared, and whether it is known: a parameter, or on the left of an earlier assignment.
+/// The facts about a name where it is declared, and whether it is known: a parameter, or on the left of an earlier assignment.
 #[derive(Clone, Copy)]
 pub(crate) struct Declaration {
     // the number of the name
     pub(crate) place: u32,
     // whether a number may be assigned to it: it is a static or a local, and no parameter
     pub(crate) is_left: bool,
-    // whether it has a value where it stands
+    // whether it has a value at its place
     pub(crate) known: bool,
 }
 
@@ -103,7 +103,7 @@ impl<'a> Scope<'a> {
         Ok(())
     }
 
-    /// What is told of a name.
+    /// The facts about a name.
     pub(crate) fn find(&self, name: &[u8]) -> Option<Declaration>
         ensures { (frame : Frame) → Knows frame self.now → IsFound frame name.now result }
     {

@@ -147,7 +147,7 @@ impl<'a> Scope<'a> {
         }
     }
 
-    /// The statements of a step. After them stands what it returns.
+    /// The statements of a step. After them comes the returned number.
     pub(crate) fn statements(
         &mut self,
         alloc: Global,
@@ -196,7 +196,7 @@ impl<'a> Scope<'a> {
         Ok(all)
     }
 
-    /// What a step returns. It stands last.
+    /// The returned number of a step, which comes last.
     pub(crate) fn returned(
         &self,
         alloc: Global,

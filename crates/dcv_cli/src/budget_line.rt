@@ -35,7 +35,7 @@ pub struct Over {
     pub excess: Excess,
     /// The limit that is named.
     pub limit: u32,
-    /// Where the step's operator stands in the text.
+    /// The place of the step's operator in the text.
     pub at: u32,
     /// The number of the step.
     pub step: u32,

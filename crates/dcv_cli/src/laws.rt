@@ -106,7 +106,7 @@ pub fn some_outcome()
 }
 
 /// Formula files with the same variables and the same models have the same answer: the same verdict, the same observers, and the same
-/// automaton up to its last access word. What stands after that are its suffixes, and what the steps took.
+/// automaton up to its last access word. After that come its suffixes, and the costs of the steps.
 pub fn equal_meanings()
     ensures { EqualMeanings }
 {

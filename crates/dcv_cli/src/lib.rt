@@ -8,9 +8,9 @@
 //! let status = run(rt.alloc(), &words, &mut files, &mut out, &mut err);
 //! ```
 //!
-//! With `var door_closed; infer [[door_closed]];` held under that name, `status` is [`Status::NotValid`], and on `out` stands
+//! With `var door_closed; infer [[door_closed]];` held under that name, `status` is [`Status::NotValid`], and `out` has
 //! `not valid`, `satisfiable`, a counterexample of the one instant `0` and an example of the one instant `1`. With `automaton` in place
-//! of `check` there stands the minimal automaton of the formula, with two states, in the text that `dcv_automaton_text` shows.
+//! of `check` it has the minimal automaton of the formula, with two states, in the text that `dcv_automaton_text` shows.
 //! `certify` reads such a text back and judges its words by themselves, `convert` writes it in another version, `implies` compares two
 //! formula files, `stuck` asks whether what has kept to a formula so far can always go on, and `synth` finds a controller that keeps to a
 //! formula, or shows how its inputs beat every controller. `replay-lustre` and `replay-c` run an observer over a trace, and

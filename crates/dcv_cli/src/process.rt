@@ -19,7 +19,7 @@ use std::alloc::Global;
 use std::io::ErrorKind;
 use std::process::ExitCode;
 
-/// Runs the program on the arguments of its process, of which the first is its name, and answers the exit code: that of the status with which
+/// Runs the program on the arguments of its process, of which the first is its name, and returns the exit code: that of the status with which
 /// the run of the others ended. Where the arguments cannot be fetched nothing is run: it is 7 if memory ran out, and else 2.
 pub fn program<F: Files, O: Sink, E: Sink>(
     alloc: Global,

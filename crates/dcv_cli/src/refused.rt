@@ -1,4 +1,4 @@
-// A refusal, as it is told: of the one file that a request reads, or of which one.
+// A refusal, as it is reported: of the one file that a request reads, or of which one.
 ghost use Rattle.std.specs.Prelude.{◌≡◌};
 ghost use Rattle.dcv_cli.specs.Refusal.{end_of, only, refusal_of_replay};
 ghost use Rattle.dcv_cli.specs.declared.refusal.Refusal.TheVariants.{Memory};

@@ -104,7 +104,7 @@ fn print<O: Sink>(
     send_report(&report, out)
 }
 
-// Writes the report, and answers as its verdict says.
+// Writes the report, and returns the status of its verdict.
 fn send_report<O: Sink>(report: &Report<'_>, out: &mut O) -> Ended
     ensures { Replies (status_of_verdict report.now.verdict) report.now.text result (stream O.Sink out.old) (stream O.Sink out.new) }
 {

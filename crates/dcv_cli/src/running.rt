@@ -27,7 +27,7 @@ use dcv_io::{Files, Sink, write_all};
 use std::alloc::Global;
 
 /// Runs the program: does what the words ask for with the files, writes the report to `out`, or a line that says
-/// why there is none to `err`, and answers how it ended.
+/// why there is none to `err`, and returns how it ended.
 ///
 /// `check FILE` writes the verdict of the formula in the file: whether each behaviour satisfies it, whether some
 /// does, a shortest behaviour that does not, and a shortest that does. `automaton FILE` writes its minimal automaton,
@@ -38,7 +38,7 @@ use std::alloc::Global;
 /// not. `stuck FILE` writes `never stuck`, or the least behaviour that keeps to the requirement and cannot be continued.
 /// `synth FILE --inputs N` writes a controller whose outputs, the variables after the first N, satisfy the formula at each instant whatever
 /// its inputs, the first N, are; or else how the inputs are picked by which no controller does, and within how many instants.
-/// `replay-lustre OBSERVER TRACE` and `replay-c OBSERVER TRACE` write what an observer answers at each instant of a trace.
+/// `replay-lustre OBSERVER TRACE` and `replay-c OBSERVER TRACE` write an observer's answer at each instant of a trace.
 /// `sweep SEED COUNT` writes how many of the formulas that are drawn from the seed are valid, and what else is counted over them.
 #[tactic(auto, using(crate::proofs::ThreeEnds::nothing_told))]
 pub fn run<F: Files, O: Sink, E: Sink>(

@@ -30,7 +30,7 @@ pub enum Status {
     Output,
     /// Memory ran out.
     Memory,
-    /// The trace is not good: after the lines that were answered stands a fault.
+    /// The trace is not good: there is a fault after the lines that were answered.
     Trace,
     /// The file holds no observer: its text has a fault.
     Observer,

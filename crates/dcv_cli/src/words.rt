@@ -5,7 +5,7 @@ ghost use Rattle.std.specs.String.{string_bytes};
 use std::alloc::{AllocError, Global};
 use std::marker::Model;
 
-/// The words that stand after the program's name, in order.
+/// The words after the program's name, in order.
 #[derive(Drop)]
 pub struct Words {
     // where requests are allocated

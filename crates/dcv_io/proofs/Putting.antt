@@ -189,14 +189,6 @@ puts_more old new more (Err failed) some is = record {
       };
 }
 
--- nothing is taken any more
-pub puts_lost : (bytes more : List ℕ) → Puts (text_put bytes true) (text_put bytes true) more
-puts_lost bytes more = record {
-  same = refl;
-  behind = λ written faults text holds.
-      record { whole = tt; front = appends_less written (Some bytes) text more holds.front; count = holds.count; once = holds.once; stops = holds.stops };
-}
-
 bytes_of : Option (List ℕ) → List ℕ
 bytes_of None = []
 bytes_of (Some bytes) = bytes

@@ -116,7 +116,7 @@ fn put_inputs<T: Target>(target: &mut T, inputs: &[Text])
     }
 }
 
-// An input, after what stands between it and the one before.
+// An input, after the text between it and the one before.
 fn put_input<T: Target>(target: &mut T, between: &[u8], name: &[u8])
     ensures { Puts (T.standing target.old) (T.standing target.new) (between.now ++ text_in (input_layout name.now)) }
 {
@@ -144,7 +144,7 @@ fn put_local<T: Target>(target: &mut T, local: &Local)
     );
 }
 
-// What stands after the name of a local.
+// The text after the name of a local.
 fn kind_end<'a>(kind: Kind) -> &'a [u8]
     ensures { result.now ≡ text_in (Word (codes ":") <+> Word (kind_text (seen_kind kind)) <> end) }
 {
@@ -242,7 +242,7 @@ fn put_tests<T: Target>(target: &mut T, names: &Names<'_>, tests: &[Test])
     }
 }
 
-// A test, after what stands between it and the one before.
+// A test, after the text between it and the one before.
 fn put_test<T: Target>(target: &mut T, between: &[u8], names: &Names<'_>, test: Test)
     ensures { Puts (T.standing target.old) (T.standing target.new) (between.now ++ text_in (test_layout (seen_test names.now test))) }
 {

@@ -25,7 +25,7 @@
 //! Here `st` is the state before an instant, `nx` the state after it, and `n0` the state to which the automaton's node 0 leads.
 //! `0 -> pre nx` is 0 at the first instant, and at each later one what `nx` was at the instant before.
 //!
-//! The grammar, the rules of names, the meaning and the layout stand in `specs/`; what is true of them is in [`laws`].
+//! The grammar, the rules of names, the meaning and the layout are in `specs/`, and the laws about them in [`laws`].
 #![tactic(auto)]
 
 pub mod laws;

@@ -1,4 +1,4 @@
-// The tree of a node. A name stands in it by its place: the inputs first, then the output `ok`, then the locals.
+// The tree of a node. A name is given by its place: the inputs first, then the output `ok`, then the locals.
 ghost use Rattle.std.specs.Prelude.{◌≡◌, map};
 
 use dcv_observer::{Condition, Test};
@@ -64,7 +64,7 @@ pub struct Local {
     pub kind: Kind,
 }
 
-/// A node that keeps the rules of names: each local and the output have one equation, which reads inputs and what stands before it, but for
+/// A node that keeps the rules of names: each local and the output have one equation, which reads inputs and earlier names, but for
 /// what is after `pre`; and each name is used for values of its own kind. So it has one trace over each word.
 #[derive(Drop)]
 pub struct Node {

@@ -1,4 +1,4 @@
-// The words of a node's text, with the blanks that stand around them.
+// The words of a node's text, with the blanks around them.
 
 // ---- lines
 

@@ -29,7 +29,7 @@ pub(crate) fn choice<'a>(alloc: Global, parts: &mut Parts<'a>) -> Made<'a>
     }
 }
 
-// What stands after a condition: the arms, from the last to the first, and the last item.
+// The text after a condition: the arms, from the last to the first, and the last item.
 fn longer_choice<'a>(
     name: Item<'a>,
     number: Option<Item<'a>>,

@@ -22,7 +22,7 @@ use dcv_observer::broken;
 use std::alloc::Global;
 
 impl Declaration {
-    // Whether it may stand on the left of what is on the right: tests stand for truths alone.
+    // Whether it may be on the left of this right side: tests are for truths alone.
     fn fits(&self, right: &PlacedRight<'_>) -> bool
         ensures { result ≡ fits_form (seen_kind self.now.kind) (right_of (seen_right right.now)) }
     {

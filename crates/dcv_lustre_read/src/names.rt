@@ -1,4 +1,4 @@
-// The names of a node that stands in a text: each is judged, in the order of the text, and becomes a place. So the node becomes a tree.
+// The names of a node that a text has: each is judged, in the order of the text, and becomes a place. So the node becomes a tree.
 ghost use Rattle.std.specs.Prelude.{◌≡◌, ◌≢◌, ◌<◌, ◌+◌, ◌++◌, ◌∷◌, [], ℕ, Bool, List, Option, map, true, false, length, IfOk, IfErr};
 ghost use Rattle.dcv_lexer.specs.Cuts.{Token};
 ghost use Rattle.dcv_observer.specs.Conditions.{Names as PlainNames};

@@ -1,4 +1,4 @@
-// A node as it stands in a text, with an item of the text for each name, constant and kind.
+// A node as a text has it, with an item of the text for each name, constant and kind.
 use dcv_observer::Item;
 
 /// `if name then item`, or `if name = number then item`.
@@ -21,7 +21,7 @@ pub struct PlacedTest<'a> {
     pub number: Item<'a>,
 }
 
-/// What stands after the `=` of an equation.
+/// The text after the `=` of an equation.
 #[derive(Drop)]
 pub enum PlacedRight<'a> {
     /// `first -> pre source`.

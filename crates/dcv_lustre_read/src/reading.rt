@@ -35,7 +35,7 @@ pub fn read(alloc: Global, bytes: &[u8]) -> Result<Node, ObsFault>
     Ok(node)
 }
 
-// The node that stands in a text.
+// The node that a text has.
 fn placed_node<'a>(alloc: Global, text: &'a [u8]) -> Result<Box<PlacedNode<'a>>, ObsFault>
     requires { length text.now < 2 ^ 32 }
     ensures spelled { IfOk result (λ placed. Spells text.now (seen_node placed.value)) }

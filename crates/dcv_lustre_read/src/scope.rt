@@ -11,14 +11,14 @@ use dcv_lustre::{Kind, ObsFault};
 use dcv_observer::Declared;
 use std::alloc::AllocError;
 
-/// What is told of a name where it is declared, and whether it is known: an input, or on the left of an earlier equation.
+/// The facts about a name where it is declared, and whether it is known: an input, or on the left of an earlier equation.
 #[derive(Clone, Copy)]
 pub(crate) struct Declaration {
     // the number of the name
     pub(crate) place: u32,
     // the type of the variable
     pub(crate) kind: Kind,
-    // whether it has a value where it stands
+    // whether it has a value at its place
     pub(crate) known: bool,
 }
 
@@ -87,7 +87,7 @@ impl<'a> Scope<'a> {
         Ok(())
     }
 
-    // What is told of a name.
+    // The facts about a name.
     pub(crate) fn find(&self, name: &[u8]) -> Option<Declaration>
         ensures { (node : PlainNode) (earlier : PlainNames) → Knows node earlier self.now.declared (map seen_row self.now.names.items)
             → IsFound node earlier name.now result }

@@ -9,7 +9,7 @@ use dcv_cli::{Status, Words, run};
 use dcv_io::{Files, Sink};
 use std::alloc::Global;
 
-/// `replay-lustre FILE FILE` and `replay-c FILE FILE`: what the observer answers at each instant of the trace, by the meaning of its text.
+/// `replay-lustre FILE FILE` and `replay-c FILE FILE`: the observer's answer at each instant of the trace, by the meaning of its text.
 #[tactic(auto, using(crate::proofs::Asked::replayed))]
 pub fn replay<F: Files, O: Sink, E: Sink>(
     alloc: Global,

@@ -5,7 +5,7 @@ ghost use Rattle.dcv_replay.specs.Laws.{OneText, AnswersOfFront, GoodLinesAreAns
 use dcv_lustre::laws::one_trace;
 use dcv_word::laws::lines_are_read_back;
 
-/// A text has one verdict: it is the trace of one word, or after the lines of one word stands the first bad line or a line too many, or
+/// A text has one verdict: it is the trace of one word, or after the lines of one word comes the first bad line or a line too many, or
 /// it is empty. So no trace has a bad line, and none is too long. Lines at the front of a text are a front of those of its verdict.
 pub fn traces_have_one_verdict()
     ensures one { OneVerdict }

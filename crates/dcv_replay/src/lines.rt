@@ -54,7 +54,7 @@ impl Lines {
         }
     }
 
-    // Takes the next byte, and answers the letter whose line it ends, if it ends one. A fault changes nothing.
+    // Takes the next byte, and returns the letter whose line it ends, if it ends one. A fault changes nothing.
     pub(crate) fn take(&mut self, byte: u8) -> Result<Option<Letter>, Stop>
         ensures lines { IsLines self.new }
         ensures width { self.new.width ≡ self.old.width }
@@ -127,7 +127,7 @@ impl Lines {
     }
 }
 
-// The line without the carriage return at its end, if one stands there.
+// The line without the carriage return at its end, if there is one.
 fn without_return(line: &[u8]) -> &[u8]
     ensures { IsWithoutReturn line.now result.now }
 {

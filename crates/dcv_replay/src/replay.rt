@@ -1,6 +1,6 @@
 //! An observer as selections over the numbers of a store.
 //!
-//! The first slots hold the numbers of their own places, so that a constant is read as a name is. Then stand the observer's names, and after
+//! The first slots hold the numbers of their own places, so that a constant is read as a name is. Then come the observer's names, and after
 //! them what it keeps beside its names.
 ghost use Rattle.std.specs.Prelude.{◌≡◌, ◌↔◌, ◌+◌, ◌≤◌, [], ◌∷◌, ◌++◌, length, fold, IsTrue};
 ghost use Rattle.std.specs.List.{All};
@@ -93,7 +93,7 @@ impl Replay {
         self.width
     }
 
-    /// Goes on by a letter, and answers whether the observer accepts the letters so far and this one. It takes no memory.
+    /// Goes on by a letter, and returns whether the observer accepts the letters so far and this one. It takes no memory.
     pub fn step(&mut self, letter: &Letter) -> bool
         requires { length letter.now ≡ self.old.program.width }
         ensures after { self.new ≡ advanced self.old (letter.now ∷ []) }

@@ -23,8 +23,8 @@ impl Replay {
     /// Answers each line of a trace, the file of this name, by a line `1` or `0`: whether the observer accepts the letters so far. Lines end by a
     /// line feed or by a carriage return and a line feed; the last may lack its end.
     ///
-    /// It takes no memory. It reads blocks of 4,096 bytes, the last of them the one in which the first fault stands. Answers are written in
-    /// blocks of 4,096 bytes, and before a fault is told; where that write fails, the answer is `Write`.
+    /// It takes no memory. It reads blocks of 4,096 bytes, the last of them the one with the first fault. Answers are written in
+    /// blocks of 4,096 bytes, and before a fault is returned; where that write fails, the answer is `Write`.
     pub fn run<F: Files, S: Sink>(
         &mut self,
         files: &mut F,
@@ -82,7 +82,7 @@ impl Replay {
         }
     }
 
-    // Answers each line of the open file, to its end or to a fault, which it answers.
+    // Answers each line of the open file, to its end or to a fault, which it returns.
     fn run_over<F: Files, S: Sink>(
         &mut self,
         files: &mut F,
@@ -220,7 +220,7 @@ impl Replay {
     }
 }
 
-// Writes the answers that are left, and answers how the run ended.
+// Writes the answers that are left, and returns how the run ended.
 fn end<S: Sink>(answers: &mut Answers, sink: &mut S, stop: Option<Stop>) -> Result<(), ReplayFault>
     ensures ends { EndsBy stop (S.written sink.old) (S.written sink.new) answers.old result }
     ensures faults { RisesIf (is_write result) (S.faults sink.old) (S.faults sink.new) }

@@ -6,7 +6,7 @@ ghost use Rattle.dcv_replay.specs.Selecting.{copy, slot_of, test_select, most_na
 use crate::replay::Select;
 use std::alloc::{AllocError, Global};
 
-// How many slots stand before those of names. Each holds the number of its own place.
+// How many slots come before those of names. Each holds the number of its own place.
 const FIRST_NAME: u32 = 32_770;
 
 // Places below this have slots with another slot after them.

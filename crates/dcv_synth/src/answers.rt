@@ -1,4 +1,4 @@
-// The least outputs that lead into a set of states, for each place of an arena: one pass over the nodes, whose children stand before them.
+// The least outputs that lead into a set of states, for each place of an arena: one pass over the nodes, whose children come before them.
 // A number stands for the values of the last slots, the last the lowest digit.
 ghost use Rattle.std.specs.Prelude.{◌≡◌, ◌-◌, ◌+◌, ◌^◌, ◌≤◌, ◌<◌, ℕ, length, IfOk, IfSome};
 ghost use Rattle.dcv_arena.specs.Arena.{IsArena, IsRef};

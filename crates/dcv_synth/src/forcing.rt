@@ -1,5 +1,5 @@
 // Which refs of an automaton's rows the environment forces out of the states that are not lost. At first one pass over the nodes finds them, whose
-// children stand before them; where further states are lost, only what leads to these is looked at again.
+// children come before them; where further states are lost, only what leads to these is looked at again.
 ghost use Rattle.std.specs.Prelude.{◌≡◌, ◌-◌, ◌^◌, ◌≤◌, ◌<◌, ℕ, true, length, slice_set, if◌then◌else◌, IfOk, OnOk, Contains};
 ghost use Rattle.std.specs.Ordering.{nat_cmp};
 ghost use Rattle.std.specs.List.{All};

@@ -1,4 +1,4 @@
-// A controller's diagrams over the inputs, made of the automaton's rows in one pass over the nodes, whose children stand before them: below the
+// A controller's diagrams over the inputs, made of the automaton's rows in one pass over the nodes, whose children come before them: below the
 // inputs a node becomes the leaf of its least output's number or next state, and a node of an input is made again, of what its children became.
 ghost use Rattle.std.specs.Prelude.{◌≡◌, ◌+◌, ◌-◌, ◌≤◌, ◌<◌, [], length, map, IfOk, OnOk, ℕ};
 ghost use Rattle.std.specs.List.{All};
@@ -15,7 +15,7 @@ use dcv_arena::{Arena, ArenaFault, Ref};
 use dcv_dfa::Auto;
 use std::alloc::{AllocError, Global};
 
-// What of an answer a diagram tells.
+// The part of an answer that a diagram gives.
 #[derive(Clone, Copy)]
 pub(crate) enum Part {
     Next,

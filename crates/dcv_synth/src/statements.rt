@@ -1,4 +1,4 @@
-// The statements of a controller's unit. A name stands in them by its place: the static first, then the inputs, then the locals.
+// The statements of a controller's unit. A name is given by its place: the static first, then the inputs, then the locals.
 ghost use Rattle.std.specs.Prelude.{◌≡◌, ◌+◌, ◌<◌, ◌≤◌, ◌++◌, ℕ, List, length, map, slice_index_or, IfOk, OnOk};
 ghost use Rattle.std.specs.List.{All};
 ghost use Rattle.dcv_language.specs.Limits.{most_nodes, number_bound};
@@ -15,7 +15,7 @@ use dcv_dfa::{NodeLine, NodeLines};
 use dcv_language::Child;
 use std::alloc::{AllocError, Global};
 
-// How many names stand before those of the output rows' nodes.
+// How many names come before those of the output rows' nodes.
 #[derive(Clone, Copy)]
 pub(crate) struct Places {
     // how many inputs there are
