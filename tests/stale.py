@@ -1,8 +1,8 @@
 #!/usr/bin/env python3
 """What stands in the repository and serves nothing. By hand: tests/stale.py
 
-It lists names between backticks in the pages (README.md, CONTRIBUTING.md, docs/, crates/*/README.md) that are nowhere else in the repository, lemmas that nothing cites, and functions of
-libraries that no library calls. It goes by words, so it passes over what shares its name with something in use. Status 1 if it lists anything.
+It lists names between backticks in the pages (README.md, CONTRIBUTING.md, docs/, crates/*/README.md) that are nowhere else in the repository, names of clauses on the page of a crate that
+the crate does not have, lemmas that nothing cites, and functions of libraries that no library calls. It goes by words, so it passes over what shares its name with something in use. Status 1 if it lists anything.
 """
 import os
 import re
@@ -26,6 +26,8 @@ ELSEWHERE = set("""
 
 # Calls that are the face of a crate as a library, which tests make alone, and what a trait asks for. Laws are called by whoever needs them.
 FACE = set("possible follows into_stream into_sink hold of_auto least_letters verdict_text automaton_text all_text shortlex main fmt from hash default clone eq partial_cmp drop write flush read".split())
+# Words of other languages in brackets on the page of a crate.
+NO_CLAUSE = {"if"}
 NO_LIBRARY = re.compile(r"dcv_(\w+_tests|bench|tables|rows|promises)$")
 
 
@@ -45,6 +47,20 @@ def stale_names(everything):
             for word in NAME.findall(found.group(1)):
                 if len(word) > 3 and word not in known:
                     yield f"{path}:{text.count(chr(10), 0, found.start()) + 1}: the name {word} stands nowhere"
+
+
+def strange_clauses(everything, sources):
+    """Names in brackets on the page of a crate that are neither a clause nor a field, a function or a module of that crate."""
+    for path, text in everything.items():
+        page = re.fullmatch(r"crates/(\w+)/README\.md", path)
+        if not page:
+            continue
+        own = [text for source, text in sources.items() if source.startswith(f"crates/{page[1]}/")]
+        known = {name for text in own for name in re.findall(r"\b(?:ensures(?: result)?|fn|mod|pub) (\w+)\b", text)} | NO_CLAUSE
+        for at, line in enumerate(text.split("\n")):
+            for name in (name for group in re.findall(r"\(([^()]*)\)", line) for name in re.findall(r"`([a-z][a-z_0-9]*)`", group)):
+                if name not in known and not name.startswith("dcv_"):
+                    yield f"{path}:{at + 1}: {page[1]} has no clause {name}"
 
 
 def extent(lines, first, name, indent):
@@ -93,7 +109,7 @@ def uncalled_functions(sources):
 def main():
     everything = texts("*")
     sources = {path: text for path, text in everything.items() if path.startswith("crates/") and path.endswith((".rt", ".antt"))}
-    found = [*stale_names(everything), *uncited_lemmas(sources), *uncalled_functions(sources)]
+    found = [*stale_names(everything), *strange_clauses(everything, sources), *uncited_lemmas(sources), *uncalled_functions(sources)]
     print("\n".join(found) or "nothing is stale")
     return bool(found)
 
