@@ -56,7 +56,7 @@ def strange_clauses(everything, sources):
         if not page:
             continue
         own = [text for source, text in sources.items() if source.startswith(f"crates/{page[1]}/")]
-        known = {name for text in own for name in re.findall(r"\b(?:ensures(?: result)?|fn|mod|pub) (\w+)\b", text)} | NO_CLAUSE
+        known = {name for text in own for name in re.findall(r"\b(?:ensures|fn|mod|pub|abbrev) (?=(\w+)\b)", text)} | NO_CLAUSE
         for at, line in enumerate(text.split("\n")):
             for name in (name for group in re.findall(r"\(([^()]*)\)", line) for name in re.findall(r"`([a-z][a-z_0-9]*)`", group)):
                 if name not in known and not name.startswith("dcv_"):
