@@ -40,26 +40,26 @@ class Cell:
         self.last: Optional[Value] = None
 
     def __call__(self, row: Row) -> Value:
-        try:
-            value: Optional[Value] = self.known[row[self.place]]
-        except KeyError:
-            value = self.new(row[self.place])
-        except IndexError:
-            value = None if self.holds else self.refuse(f"the row ends before the column of {self.name}")
+        text = row[self.place] if self.place < len(row) else None
+        value = self.known.get(text) if text is not None else None
         if value is None:
-            value = self.last if self.last is not None else self.refuse(f"{self.name} has no value yet")
+            value = self.new(text)
         self.last = value
         return value
 
-    def new(self, text: str) -> Optional[Value]:
-        value = self.read(text.strip())
-        if value is None and not self.holds:
-            self.refuse(f"{self.name} is '{text.strip()[:80]}', which is no {WANTED[self.read]}")
-        if value is not None:
+    def new(self, text: Optional[str]) -> Value:
+        """The value of a text that was not met before, or of a cell that is not there."""
+        value = self.read(text.strip()) if text is not None else None
+        if value is not None and text is not None:
             if len(self.known) >= MOST_KNOWN:
                 self.known.clear()
             self.known[text] = value
-        return value
+            return value
+        if self.holds and self.last is not None:
+            return self.last
+        if text is None:
+            return self.refuse(f"the row ends before the column of {self.name}")
+        return self.refuse(f"{self.name} is '{text.strip()[:80]}', which is no {WANTED[self.read]}" + ("; there is no value to hold" if self.holds else ""))
 
     @staticmethod
     def refuse(message: str) -> Value:

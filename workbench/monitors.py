@@ -202,10 +202,12 @@ class Monitor:
             found.append(Run(first, self.begin + len(piece) - 1, self.codes.letters[ord(piece[-1])], labels.at(first)))
             piece = rest
         found.reverse()
-        if not piece and self.earlier and found and self.earlier[-1].letter == found[0].letter:
-            found[0] = self.earlier[-1]._replace(last=found[0].last)
-            return [*self.earlier[:-1], *found][-BEFORE:]
-        return ([] if piece else self.earlier) + found if len(found) < BEFORE else found
+        if piece or not self.earlier:
+            return found
+        before = self.earlier
+        if found and before[-1].letter == found[0].letter:
+            before, found[0] = before[:-1], before[-1]._replace(last=found[0].last)
+        return [*before, *found][-BEFORE:]
 
     def word(self, last: int) -> str:
         """The letters of the piece up to an instant, a line for each."""

@@ -188,5 +188,5 @@ def column_of(shown: str, names: Sequence[str], wanted: str, variable: str) -> i
     if wanted in names:
         raise LogFault(f"{shown}: {names.count(wanted)} columns are named {wanted}")
     near = get_close_matches(wanted, names, 1, 0.8)
-    hint = (f"; {near[0]} is near" if near else "") + ("" if wanted != variable else f"; --column {variable}=NAME names another one")
+    hint = (f"; {near[0]} is near" if near else "") + ("" if wanted != variable else f"; --column {variable}=NAME names another one, and --let makes one")
     raise LogFault(f"{shown}: no column is named {wanted}; there are: {', '.join(names) or 'none'}{hint}")

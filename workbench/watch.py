@@ -18,6 +18,7 @@ from shapes import is_number
 from signals import Signal, read_line, read_signals
 from times import UNITS, duration
 from watch_report import Lines, Text as TextReport, write_junit
+from waves import instants
 
 PIECE = 200_000  # rows that are replayed in one run where one requirement is watched: a trace has 1,000,000 instants at most
 MOST_PIECE = 1_000_000
@@ -180,7 +181,15 @@ def watched(options: argparse.Namespace, program: Program, source: Source, monit
     """All requirements in one pass."""
     report: Union[Lines, TextReport] = Lines() if options.json else TextReport()
     judge = Judge(monitors, report, Confirmation(program, options.confirm), min(options.piece or MOST_PIECE, MOST_PIECE), options.until_broken)
-    judge.run(source.shown, source.blocks())
+    try:
+        judge.run(source.shown, source.blocks())
+    except LogFault as fault:
+        before = f"; {instants(judge.count)} before it {'is' if judge.count == 1 else 'are'} judged" if judge.count else ""
+        raise LogFault(f"{fault}{before}") from None
+    except BaseException as end:
+        if end.__class__.__name__ == "Stopped" and judge.count:  # a signal ends a log that has no end of its own
+            report.end(monitors, judge.count)
+        raise
     if judge.count == 0:
         raise LogFault(f"{source.shown}: there is no instant")
     report.end(monitors, judge.count)
