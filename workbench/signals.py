@@ -26,6 +26,10 @@ class Signal(NamedTuple):
     meaning: str
     where: str
 
+    @property
+    def spoken(self) -> str:
+        return " ".join([self.name] + ["= " + self.expression] * bool(self.expression) + ["// " + self.meaning] * bool(self.meaning))
+
 
 class Part(NamedTuple):
     """A part of an expression: whether it is a number, a truth, a text, or a column, which is what it is used as, and its value in a row."""

@@ -179,7 +179,7 @@ def judged(options: argparse.Namespace, program: Program, log: str, found: List[
 
 def watched(options: argparse.Namespace, program: Program, source: Source, monitors: List[Monitor]) -> int:
     """All requirements in one pass."""
-    report: Union[Lines, TextReport] = Lines() if options.json else TextReport()
+    report: Union[Lines, TextReport] = Lines() if options.json else TextReport(source.settings.signals)
     judge = Judge(monitors, report, Confirmation(program, options.confirm), min(options.piece or MOST_PIECE, MOST_PIECE), options.until_broken)
     try:
         judge.run(source.shown, source.blocks())

@@ -4,6 +4,7 @@ import xml.etree.ElementTree as xml
 from typing import Dict, Iterator, List, Sequence, Tuple
 
 from monitors import Heading, Monitor, Run
+from signals import Signal
 from streams import Unwritten, plain
 from waves import instants
 
@@ -39,8 +40,9 @@ def result(monitor: Monitor, count: int) -> str:
 class Text:
     """The report as text."""
 
-    def __init__(self) -> None:
+    def __init__(self, signals: Sequence[Signal]) -> None:
         self.told: Dict[Monitor, int] = {}
+        self.signals = signals  # the glossary: a line for each that the requirement of a breach has
 
     def wants(self, monitor: Monitor) -> bool:
         return self.told.get(monitor, 0) < MOST
@@ -52,6 +54,7 @@ class Text:
         lines = [f"{monitor.heading.spoken}: broken at instant {instant}, row {label}"]
         if runs:
             lines += shown_rows(monitor.heading.variables, instant, label, runs, ())
+            lines += [f"      {it.spoken}" for it in self.signals if it.name in monitor.heading.variables]
         if not self.wants(monitor):
             lines.append(f"{monitor.heading.spoken}: more breaches are counted and not listed")
         print("\n".join(lines), flush=True)
