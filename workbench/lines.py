@@ -4,7 +4,7 @@ import time
 import zlib
 from typing import Iterator, List, NamedTuple, Optional
 
-SIZE = 1 << 20  # bytes of one read
+SIZE = 1 << 18  # bytes of one read
 MOST_LINE = 1 << 24  # bytes of a line
 WAIT = 0.1  # seconds between two looks at a file that grows
 OTHERS = (  # what a log of another format begins with, or its name ends in, and how it is turned into one that is read

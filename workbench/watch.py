@@ -1,5 +1,6 @@
 """`watch`: a log against requirements: where each is broken first, or each time; many in one pass, and live on a pipe."""
 import argparse
+import gc
 import os
 import sys
 from typing import List, Sequence, Tuple, Union
@@ -179,6 +180,7 @@ def judged(options: argparse.Namespace, program: Program, log: str, found: List[
 
 def watched(options: argparse.Namespace, program: Program, source: Source, monitors: List[Monitor]) -> int:
     """All requirements in one pass."""
+    gc.set_threshold(1_000_000)  # rows are many objects, and no cycles
     report: Union[Lines, TextReport] = Lines() if options.json else TextReport(source.settings.signals)
     judge = Judge(monitors, report, Confirmation(program, options.confirm), min(options.piece or MOST_PIECE, MOST_PIECE), options.until_broken)
     try:
