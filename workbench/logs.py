@@ -8,7 +8,7 @@ from cells import BadCell, Cell, Value, truth_of
 from dumps import Dump
 from json_rows import JsonLines
 from lines import LogFault
-from monitors import Codes, NoTruth, cells_at
+from monitors import MOST_KNOWN, Codes, NoTruth, cells_at
 from signals import Expression, Signal
 from tabular import Block, Table
 from times import UNITS, Clock, Sampler, Steps, duration, is_time
@@ -77,6 +77,23 @@ def open_log(settings: Settings) -> Log:
     return Table(settings.path, settings.separator, settings.follow)
 
 
+class Known(Dict[str, bool]):
+    """A signal that is made of one column: its values by the cells."""
+
+    def __init__(self, value: Callable[[Sequence[str]], bool], place: int) -> None:
+        super().__init__()
+        self.value, self.place = value, place
+
+    def __missing__(self, text: str) -> bool:
+        if len(self) >= MOST_KNOWN:
+            self.clear()
+        self[text] = self.value((text,))
+        return self[text]
+
+    def __call__(self, row: Sequence[str]) -> bool:
+        return self[row[self.place]]
+
+
 class Source:
     """A log and where the variables are in its rows."""
 
@@ -106,9 +123,12 @@ class Source:
         if signal is None:
             place = self.use(self.settings.columns.get(name, name), name, False)
             return lambda: Cell(name, place - self.log.shift, truth_of, self.settings.holds)
-        given = signal
+        given, holds, begin = signal, self.settings.holds, len(self.used)
         Expression(given, lambda column, number: self.use(column, "", number), False).whole()
-        return lambda: Expression(given, lambda column, _: self.log.column(column, "") - self.log.shift, self.settings.holds).whole()
+        places = set(self.used[begin:])
+        if len(places) == 1 and not holds:
+            return lambda: Known(Expression(given, lambda *_: 0, False).whole(), min(places) - self.log.shift)
+        return lambda: Expression(given, lambda column, _: self.log.column(column, "") - self.log.shift, holds).whole()
 
     def use(self, name: str, variable: str, number: bool) -> int:
         place = self.log.column(name, variable, number)
@@ -170,8 +190,8 @@ class Source:
                 raise fault
 
     def missing(self, row: Sequence[str]) -> str:
-        name = next(name for name, place in zip(self.raw, self.kept) if place >= len(row))
-        return f"the row ends before the column of {name}"
+        names = {place - self.log.shift: self.log.names[place] for place in self.used}
+        return f"the row ends before the column of {names[min(place for place in names if place >= len(row))]}"
 
 
 def bad_cells(row: Sequence[str], variables: Sequence[str], places: Sequence[int]) -> Optional[str]:
