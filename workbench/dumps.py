@@ -154,7 +154,7 @@ class Dump:
         self.numbers: Set[str] = set()
         self.label: Optional[int] = None
         self.wanted: Sequence[int] = ()
-        self.shift = 0
+        self.reads_label, self.shift = False, 0
 
     def column(self, name: str, _: str, number: bool = False) -> int:
         """The place of a signal."""

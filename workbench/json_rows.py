@@ -21,11 +21,11 @@ class JsonLines:
     def __init__(self, path: str, follow: bool) -> None:
         self.path, self.shown = path, name_of(path)
         self.chunks = chunks(path, follow)
-        self.begin = next(self.chunks, Chunk("{}", 1, True, False))
-        self.names: List[str] = list(self.members_of(self.begin.text.split("\n")[0], self.begin.first))
+        self.begin = next(self.chunks, None)
+        self.names: List[str] = list(self.members_of(self.begin.text.split("\n")[0], self.begin.first)) if self.begin else []
         self.label: Optional[int] = None
         self.wanted: Sequence[int] = ()
-        self.shift = 0
+        self.reads_label, self.shift = False, 0
 
     def column(self, name: str, variable: str, _: bool = False) -> int:
         return column_of(self.shown, self.names, name, variable)
@@ -49,7 +49,8 @@ class JsonLines:
         return cells
 
     def blocks(self) -> Iterator[Block]:
-        yield from self.block(self.begin)
+        if self.begin is not None:
+            yield from self.block(self.begin)
         for chunk in self.chunks:
             yield from self.block(chunk)
 

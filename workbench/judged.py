@@ -77,6 +77,8 @@ class Judge:
     def tell(self, active: Sequence[Monitor], codes: Sequence[str], found: List[Tuple[int, int]], part: Block) -> None:
         """Tells breaches, which are confirmed before."""
         if self.until_broken:
+            for instant, number in found:
+                active[number].breaches -= instant > found[0][0]
             found = [pair for pair in found if pair[0] == found[0][0]]
         last = {number: instant for instant, number in found}
         confirmed = [number for number in last if self.report.wants(active[number])]

@@ -48,10 +48,10 @@ def reads(path: str, number: int) -> Iterator[bytes]:
 def is_replaced(path: str, number: int) -> bool:
     """Whether another file has this path now, or the open one was cut."""
     try:
-        there, here = os.stat(path), os.fstat(number)
+        there, here, read = os.stat(path), os.fstat(number), os.lseek(number, 0, os.SEEK_CUR)
     except OSError:
         return False
-    return (there.st_dev, there.st_ino) != (here.st_dev, here.st_ino) or here.st_size < os.lseek(number, 0, os.SEEK_CUR)
+    return (there.st_dev, there.st_ino) != (here.st_dev, here.st_ino) or here.st_size < read
 
 
 def followed(path: str) -> Iterator[Optional[bytes]]:
@@ -114,27 +114,27 @@ def chunks(path: str, follow: bool = False) -> Iterator[Chunk]:
     left: List[bytes] = []  # of a line that goes on
     line, size, new = 1, 0, False
     for part in unpacked(path, opened(path, follow)):
-        end = -1 if part is None else part.rfind(b"\n")
-        if part is None or end >= 0:
-            whole = b"".join(left) + (part[:end] if part is not None else b"")
-            if part is not None or whole:
-                yield from chunk_of(path, whole, line, part is not None, new)
-                line, new = line + whole.count(b"\n") + 1, False
-            left, size = [part[end + 1:]] if part is not None else [], 0
-            if part is None:
-                line, new = 1, True
-        else:
-            left.append(part)
-        size += len(left[-1]) if left else 0
+        if part is None:
+            yield from chunk_of(path, b"".join(left), line, False, new)
+            left, line, size, new = [], 1, 0, True
+            continue
+        first, end = part.find(b"\n"), part.rfind(b"\n")
+        size += len(part) if first < 0 else first
         if size > MOST_LINE:
             raise LogFault(f"{name_of(path)}:{line}: the line has more than {MOST_LINE} bytes")
-    whole = b"".join(left)
-    if whole:
-        yield from chunk_of(path, whole, line, False, new)
+        if end < 0:
+            left.append(part)
+            continue
+        whole = b"".join([*left, part[:end]])
+        yield from chunk_of(path, whole, line, True, new)
+        left, line, size, new = [part[end + 1:]], line + whole.count(b"\n") + 1, len(part) - end - 1, False
+    yield from chunk_of(path, b"".join(left), line, False, new)
 
 
 def chunk_of(path: str, data: bytes, first: int, ends: bool, new: bool) -> Iterator[Chunk]:
-    """The lines, up to one that has a NUL."""
+    """The lines, up to one that has a NUL; of nothing that has no end there are none."""
+    if not data and not ends:
+        return
     nul = data.find(b"\0")
     if nul >= 0:
         line, begin = first + data.count(b"\n", 0, nul), data.rfind(b"\n", 0, nul)

@@ -24,6 +24,7 @@ class Log(Protocol):
     names: List[str]
     label: Optional[int]  # the column of the labels
     wanted: Sequence[int]  # the columns that are read
+    reads_label: bool  # whether the column of the labels is one of a variable or a signal too
 
     @property
     def shift(self) -> int:
@@ -110,6 +111,7 @@ class Source:
         evaluated = [name for name in variables if name in signals or everything]
         readers = [self.reader(name, signals.get(name)) for name in evaluated]
         self.find_label()
+        self.log.reads_label = self.log.label in self.used
         shift = self.log.shift
         self.log.wanted = self.used + ([self.log.label] if self.log.label is not None else [])
         self.made = [reader() for reader in readers]

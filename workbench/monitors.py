@@ -13,6 +13,7 @@ from automaton import Automaton
 
 TRUTHS = {"0": "0", "1": "1", "false": "0", "true": "1", "off": "0", "on": "1", "no": "0", "yes": "1"}
 MOST_KNOWN = 1 << 16  # of rows' cells whose code is kept
+MOST_STEPS = 1 << 18  # of a walk that are kept
 SHORT = 1 << 12  # characters of a string that more are added to
 BEFORE = 6  # runs of equal letters that are shown up to a breach
 
@@ -36,6 +37,7 @@ class State(Dict[str, "State"]):
         target = self.walk.state(self.walk.automaton.step(self.number, self.walk.letters[ord(code)]))
         if not self.walk.automaton.accept[target.number]:
             raise Broken
+        self.walk.note()
         self[code] = target
         return target
 
@@ -46,6 +48,15 @@ class Walk:
     def __init__(self, automaton: Automaton, letters: List[str]) -> None:
         self.automaton, self.letters = automaton, letters
         self.states: Dict[int, State] = {}
+        self.steps = 0  # that are kept
+
+    def note(self) -> None:
+        """One more step is kept; where they are too many, those before are not."""
+        self.steps += 1
+        if self.steps > MOST_STEPS:
+            self.steps = 0
+            for state in self.states.values():
+                state.clear()
 
     def state(self, number: int) -> State:
         if number not in self.states:

@@ -29,18 +29,21 @@ class Table:
         self.chunks = chunks(path, follow)
         first = next(self.chunks, Chunk("", 1, False, False))
         self.head, _, rest = first.text.partition("\n")
+        if self.head.count('"') % 2:
+            raise LogFault(f"{self.shown}:1: a quote is not closed in the header")
         self.separator = separator or separator_of(self.head, rest)
         self.names = [name.strip() for name in next(csv.reader([self.head], delimiter=self.separator, skipinitialspace=True), [])]
         self.rest: Optional[Chunk] = Chunk(rest, 2, first.ends, False) if "\n" in first.text else None
         self.label: Optional[int] = None  # the column of the labels; where there is none they are lines
         self.wanted: Sequence[int] = ()  # the columns that are read
+        self.reads_label = False  # whether that of the labels is one of a variable or a signal too
         self.left: List[str] = []  # lines of a row that goes on, from this line on
         self.left_line = self.empty = 0  # and an empty line of a log with one column
 
     @property
     def shift(self) -> int:
         """How many columns are left out of the cells: that of the labels where it is the first."""
-        return int(self.label == 0 and len(self.names) > 1)
+        return int(self.label == 0 and len(self.names) > 1 and not self.reads_label)
 
     def column(self, name: str, variable: str, _: bool = False) -> int:
         return column_of(self.shown, self.names, name, variable)

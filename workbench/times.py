@@ -12,7 +12,7 @@ UNITS = {"ns": 1, "us": 1_000, "ms": 1_000_000, "s": 1_000_000_000, "min": 60_00
 NUMBER = re.compile(r"-?\d{1,20}(\.\d{1,20})?", re.A)
 CLOCK = re.compile(r"(\d{1,3}):(\d\d)(?::(\d\d(?:\.\d{1,9})?))?", re.A)
 DATE = re.compile(r"(\d{4}-\d\d-\d\d)[T ](\d\d:\d\d)(?::(\d\d)(?:[.,](\d{1,9}))?)?(Z|[+-]\d\d:?\d\d)?", re.A)
-NAMED = re.compile(r"(t|ts|time.*|date.*|clock|.*[ _.(\[]?(s|ms|us|ns|sec|secs|seconds|millis)[)\]]?|.*time(stamp)?)", re.I)
+NAMED = re.compile(r"(t|ts|time.*|date.*|clock|(.*[ _.(\[])?(s|ms|us|ns|sec|secs|seconds|millis)[)\]]?|.*time(stamp)?)", re.I)
 EPOCH = datetime(1970, 1, 1, tzinfo=timezone.utc)
 MOST_INSTANTS = 100_000_000  # that a row is repeated
 BLOCK = 1 << 14  # instants

@@ -111,10 +111,12 @@ def usage(options: argparse.Namespace) -> str:
     if options.log is None and len(options.more) != 1:
         return "a requirement and a log, or requirements and --log LOG, are expected"
     if options.log is None:
-        alone = [word for word in ("until_broken", "confirm", "json", "junit") if getattr(options, word)]
+        alone = [word for word in ("until_broken", "confirm", "json", "junit", "anew") if getattr(options, word)]
         return f"--{alone[0].replace('_', '-')} is for --log LOG" if alone else ""
-    if options.trace and options.more:
-        return "--trace writes the trace of one requirement"
+    if options.trace and (options.more or options.anew):
+        return "--trace writes the trace of one requirement, without --anew"
+    if options.any and not options.period or options.anew and not options.gap:
+        return "--any is for --period" if options.any else "--anew is for --gap"
     if options.shown == "-" and options.log == "-":
         return "a requirement and the log cannot both be standard input"
     if options.follow and options.log == "-":
@@ -157,6 +159,9 @@ def settings_of(options: argparse.Namespace, log: str, variables: Sequence[str])
     unknown = [name for name, _ in options.column if name not in variables]
     if unknown:
         raise LogFault(f"--column: {unknown[0]} is no variable of {options.shown}; it has: {', '.join(variables) or 'none'}")
+    strange = [it.name for it in options.let if it.name not in variables]
+    if strange:
+        raise LogFault(f"--let: {strange[0]} is no variable of a requirement; these are: {', '.join(variables) or 'none'}")
     listed = read_signals(read_text(options.signals, MOST_TEXT).encode("latin-1").decode("utf-8", "replace"), options.signals) if options.signals else []
     return Settings(log, options.kind, dict(options.column), [*listed, *options.let], options.hold, options.separator, options.follow, options.clock,
                     options.period, options.time, options.unit, options.gap, options.anew, options.any)

@@ -56,7 +56,7 @@ class Text:
             lines += shown_rows(monitor.heading.variables, instant, label, runs, ())
             lines += [f"      {it.spoken}" for it in self.signals if it.name in monitor.heading.variables]
         if not self.wants(monitor):
-            lines.append(f"{monitor.heading.spoken}: more breaches are counted and not listed")
+            lines.append(f"{monitor.heading.spoken}: that were {MOST} breaches; more are counted and not listed")
         print("\n".join(lines), flush=True)
 
     def end(self, monitors: Sequence[Monitor], count: int) -> None:

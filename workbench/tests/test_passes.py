@@ -22,6 +22,16 @@ def variables_of(path):
     return line[4:].strip().rstrip(";").replace(",", " ").split()
 
 
+# Logs that are at fault after a breach at instant 4: what follows the rows of FEW, and the line on standard error.
+FAULTS = (
+    (b"5,0\n", ":7: the row ends before the column of grant"), (b"5,0,0,0\n", ":7: the row has 4 cells, and the header 3"),
+    (b'5,"0,0\n6,0,0\n', ":7: the quote that begins in column 2 is not closed where the log ends"), (b"5,0\0,0\n", ":7:4: a NUL is no text"),
+    (b"5,2,0\n", ":7: request is '2', which is no truth"), (b"5,0", ":7: the log ends within the row, after 2 of 3 cells"),
+    (b"5," + b"0" * (1 << 24) + b",0\n", ":7: the line has more than 16777216 bytes"), (b"\n5,,0\n", ":8: request is '', which is no truth"),
+    (b"5,\xff,0\n", ":7: request is '\ufffd', which is no truth"),
+)
+
+
 @needs_program
 class Passes(WithFolder):
     def ask(self, *words, **more):
@@ -106,8 +116,59 @@ class Passes(WithFolder):
 
     def test_words_that_do_not_go_together(self):
         log = self.file("few.csv", FEW)
-        for words in ((RESPONSE,), (RESPONSE, RESPONSE, log), (RESPONSE, log, "--json"), (RESPONSE, log, "--confirm"), ("-", "--log", "-")):
+        for words in ((RESPONSE, "--log", log, "--any"), (RESPONSE, "--log", log, "--anew"), (RESPONSE, log, "--gap", "1s", "--anew"),
+                      (RESPONSE,), (RESPONSE, RESPONSE, log), (RESPONSE, log, "--json"), (RESPONSE, log, "--confirm"), ("-", "--log", "-")):
             self.assertEqual(self.ask(*words)[0], 2, words)
+
+    def test_what_was_reported_before_a_fault_stays(self):
+        for more, message in FAULTS:
+            path = self.file("bad.csv", FEW + more.decode("latin-1"))
+            for words in ((path,), ("-",)):
+                with open(path, "rb") as log:
+                    done = subprocess.run([os.path.join(ROOT, "ask"), "watch", RESPONSE, "--log", *words, "--rearm"], stdin=log, capture_output=True,
+                                          env={**os.environ, "DCVALID": PROGRAM}, check=False)
+                err = done.stderr.decode()
+                self.assertEqual(done.returncode, 8, err)
+                self.assertIn(message, err)
+                self.assertIn("5 instants before it are judged", err)
+                self.assertEqual(err.count("\n"), 1)
+                self.assertTrue(done.stdout.startswith(b"response: broken at instant 4, row 4\n"))
+                self.assertNotIn(b"holds", done.stdout)
+
+    def test_columns_that_are_wrong(self):
+        for header, words, message in (("t,request,request,grant", (), "2 columns are named request"), ("t,request,grunt", (), "no column is named grant"),
+                                       ("t,request,grant", ("--let", "x = t > 1"), "x is no variable"), ('t,"request,grant', (), "a quote is not closed in the header"),
+                                       ("t,request,grant", ("--column", "x=t"), "x is no variable"), ("", (), "no column is named request")):
+            status, out, err = self.ask(RESPONSE, "--log", self.file("bad.csv", header + "\n0,0,0\n"), *words)
+            self.assertEqual((status, out), (8, ""), header)
+            self.assertIn(message, err)
+
+    def test_other_formats_are_named(self):
+        for begin, message in (("MDF     4.10", "asammdf"), ("\0\0\0\0\0\0\0\1I", "fst2vcd"), ("\xff\xfet\0", "iconv"), ("\x1f\x8b\x08cut", "gzip file is")):
+            status, out, err = self.ask(RESPONSE, "--log", self.file("a.log", begin))
+            self.assertEqual((status, out), (8, ""))
+            self.assertIn(message, err)
+
+    def test_times_and_signals(self):
+        """A request at 1 s and no grant is late at 4 s; after a gap the requirement begins anew."""
+        rows = "t,speed,grant\n0,1,0\n1,31,0\n2,1,0\n3,1,0\n%s,1,0\n"
+        for last, words, wanted, told in ((4, (), "broken at instant 4, row 4", 0), ("4.5", (), "broken at instant 4, row 4.5", 1),
+                                          (6, ("--gap", "2s", "--anew"), "holds at each of 5 instants", 0),
+                                          (6, ("--gap", "3s", "--anew"), "broken at instant 4, row 6", 0),
+                                          (4, ("--period", "500ms"), "broken at instant 5, row 2", 0),
+                                          (4, ("--period", "2s"), "holds at each of 3 instants", 0),
+                                          (8, ("--period", "2s", "--any"), "broken at instant 4, row 8", 0)):
+            log = self.file("t.csv", rows % last)
+            _, out, err = self.ask(RESPONSE, "--log", log, "--let", "request = speed > 30.5", "--confirm", *words)
+            self.assertEqual(self.results(out), {"response": wanted}, words)
+            self.assertEqual(err.count("uneven: the first two rows are 1 apart, and the row 4.5 in line 6 comes 1.5 after"), told, err)
+            if last == 4 and not words:
+                self.assertIn("request = speed > 30.5", out)
+
+    def test_numbers_of_a_dump(self):
+        dump = self.file("a.vcd", "$var wire 8 # level $end\n$var wire 1 ! grant $end\n$enddefinitions $end\n#0\n0!\nb0 #\n#1\nb101 #\n#2\nb11 #\n#3\n#4\nb1 #\n#5\n1!\n")
+        _, out, _ = self.ask(RESPONSE, dump, "--let", "request = level in 4..5", "--trace")
+        self.assertEqual(out.split(), ["00", "10", "00", "00", "00", "01"])
 
     def test_what_is_not_confirmed(self):
         """A program whose automaton is another one than its observer: no breach is told."""
