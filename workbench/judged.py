@@ -5,7 +5,7 @@ from confirmed import Confirmation
 from lines import LogFault
 from logs import bad_cells
 from monitors import Labels, Monitor, NoTruth, Run
-from tabular import Block
+from tabular import Block, cut
 
 
 class Report(Protocol):
@@ -109,22 +109,6 @@ class Judge:
         self.end_piece()
         for it in self.active:
             it.begin_anew()
-
-
-def cut(block: Block, first: int, last: int) -> Block:
-    """Some rows of a block, by their places."""
-    if len(block.rows) == len(block.labels):
-        return block._replace(rows=block.rows[first:last], counts=block.counts[first:last], labels=block.labels[first:last], lines=block.lines[first:last])
-    rows: List[List[str]] = []
-    counts: List[int] = []
-    at = 0
-    for row, count in zip(block.rows, block.counts):
-        within = min(last, at + count) - max(first, at)
-        if within > 0:
-            rows.append(row)
-            counts.append(within)
-        at += count
-    return block._replace(rows=rows, counts=counts, labels=block.labels[first:last], lines=block.lines[first:last])
 
 
 def bad_row(shown: str, block: Block, monitors: Sequence[Monitor]) -> Tuple[Block, LogFault]:

@@ -10,7 +10,7 @@ from json_rows import JsonLines
 from lines import LogFault
 from monitors import MOST_KNOWN, Codes, NoTruth, cells_at
 from signals import Expression, Signal
-from tabular import Block, Table
+from tabular import Block, Table, cut
 from times import UNITS, Clock, Sampler, Steps, duration, is_time
 
 Row = Tuple[str, str]  # a label and a letter
@@ -163,9 +163,12 @@ class Source:
             if number == 0 and self.log.label is not None:
                 if self.settings.time or is_time(self.log.names[self.log.label], block.labels[0]):
                     self.steps = Steps(unit)
-            if self.steps:
-                self.steps.block(block)
-            yield block
+            bad = self.steps.block(block) if self.steps else None
+            if bad is None or not self.settings.time:
+                yield block
+            else:
+                yield cut(block, 0, bad)
+                raise LogFault(f"{self.shown}:{block.lines[bad]}: '{block.labels[bad].strip()[:80]}' is no time")
 
     def evaluated(self, blocks: Iterator[Block]) -> Iterator[Block]:
         """The blocks with the values of all variables, of which some are signals."""

@@ -20,6 +20,22 @@ class Block(NamedTuple):
     anew: bool = False  # whether what was before is forgotten
 
 
+def cut(block: Block, first: int, last: int) -> Block:
+    """Some rows of a block, by their places."""
+    if len(block.rows) == len(block.labels):
+        return block._replace(rows=block.rows[first:last], counts=block.counts[first:last], labels=block.labels[first:last], lines=block.lines[first:last])
+    rows: List[List[str]] = []
+    counts: List[int] = []
+    at = 0
+    for row, count in zip(block.rows, block.counts):
+        within = min(last, at + count) - max(first, at)
+        if within > 0:
+            rows.append(row)
+            counts.append(within)
+        at += count
+    return block._replace(rows=rows, counts=counts, labels=block.labels[first:last], lines=block.lines[first:last])
+
+
 class Table:
     """A log in CSV that is being read: the names of its columns are there when it is made."""
 

@@ -69,10 +69,11 @@ class Steps:
         self.rows = self.odd = 0
         self.first = ""  # what is told of the first odd step
 
-    def block(self, block: Block) -> None:
+    def block(self, block: Block) -> Optional[int]:
+        """Looks at some rows; the place of one whose label is no time, or None."""
         times = fast_times(block.labels, self.unit)
         if times is None:
-            return
+            return next(place for place, label in enumerate(block.labels) if nanoseconds(label.strip(), self.unit) is None)
         begin = [] if self.last is None else [self.last]
         before = begin + times[:-1]
         after = times if begin else times[1:]
@@ -80,12 +81,13 @@ class Steps:
         self.rows += len(times)
         self.last = times[-1]
         if not steps:
-            return
+            return None
         if self.step is None:
             self.step = steps[0]
         slack = max(abs(self.step) * 1e-6, abs(times[-1]) * 1e-12)
         if max(steps) - self.step > slack or self.step - min(steps) > slack:
             self.uneven(block, steps, slack)
+        return None
 
     def uneven(self, block: Block, steps: List[float], slack: float) -> None:
         assert self.step is not None

@@ -148,10 +148,11 @@ def requirement(options: argparse.Namespace, program: Program, name: str, path: 
     """A requirement, and its text in the language. What the program refuses is explained by the names that are left in the options."""
     if path != options.shown:
         options.file = options.shown = path
-    text = Text(options.file, path).text
+    source = Text(options.file, path)
+    text = source.text
     if program.fault(text):
         program.ask("check", text)
-    head = heading_of(read_text(options.file).encode("latin-1").decode("utf-8", "replace"))
+    head = heading_of(source.source.text.encode("latin-1").decode("utf-8", "replace"))
     return Heading(name, path, *head, parse(text).variables), text
 
 

@@ -54,6 +54,7 @@ REFUSED = (
     ((("0", "1"), ("2", "0"), ("1", "0")), {"period": "1s"}, ":4: the time 1 is before the one of the row before"),
     ((("0", "1"), ("1", "0"), ("9", "1")), {"gap": 7_000_000_000}, ":4: a gap of 8 s before 9"),
     ((("0", "1"), ("9999999", "0")), {"period": "1ns"}, "are the most"),
+    ((("0", "1"), ("x", "0")), {"time": "t"}, ":3: 'x' is no time"),
     ((("0", "1"),), {"time": "tt"}, "no column is named tt"),
 )
 
