@@ -4,7 +4,7 @@ from dataclasses import dataclass, field
 from itertools import repeat
 from typing import Any, Callable, Dict, Iterator, List, Mapping, Optional, Protocol, Sequence, Tuple, Union
 
-from cells import BadCell, Cell, Value, truth_of
+from cells import WANTED, BadCell, Cell, truth_of
 from dumps import Dump
 from json_rows import JsonLines
 from lines import LogFault
@@ -205,7 +205,7 @@ def bad_cells(row: Sequence[str], variables: Sequence[str], places: Sequence[int
         if place >= len(row):
             return f"the row ends before the column of {variable}"
         if truth_of(row[place].strip()) is None:
-            return f"{variable} is '{row[place].strip()[:80]}', which is no truth; 0 and 1, false and true, off and on, no and yes are"
+            return f"{variable} is '{row[place].strip()[:80]}', which is no {WANTED[truth_of]}"
     return None
 
 

@@ -127,7 +127,8 @@ class Table:
         return self.fault(line, "the row ends before the column of its label")
 
     def carefully(self, chunk: Chunk) -> Tuple[Block, Optional[LogFault]]:
-        """The rows of any lines, and what is wrong after them. An empty line is none; but of a log with one column it is an empty cell where others follow it."""
+        """The rows of any lines, and what is wrong after them. An empty line is none; but of a log with one column it is an empty cell
+        where others follow it."""
         lines = self.left + chunk.text.split("\n")
         first = self.left_line if self.left else chunk.first
         self.left = []

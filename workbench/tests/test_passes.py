@@ -38,13 +38,14 @@ class Passes(WithFolder):
         return run("ask", "watch", *words, **more)
 
     def drawn(self, seed, rows=300, chance=0.1):
-        """A log with all names of the requirements, in which few cells change from row to row; and with two columns that none has."""
+        """A log with all names of the requirements, in which cells change by chance; and with two columns that none has. Where changes
+        are few, many rows repeat the one before."""
         draw = random.Random(seed)
         names = list(dict.fromkeys(name for path in FILES for name in variables_of(path)))
         cells, lines = ["0"] * len(names), [",".join(["time", "other", *names, "last"])]
         for row in range(rows):
             cells = [str(1 - int(cell)) if draw.random() < chance else cell for cell in cells]
-            lines.append(",".join([f"t{row}", draw.choice("xy"), *cells, "z"]))
+            lines.append(",".join([f"t{row}", draw.choice("xy") if chance > 0.05 else "x", *cells, "z"]))
         return self.file(f"log{seed}.csv", "\n".join(lines) + "\n")
 
     def results(self, out):
@@ -54,7 +55,7 @@ class Passes(WithFolder):
 
     def test_one_pass_beside_many_calls(self):
         """Each call replays the log through the program's observer."""
-        for seed, chance in ((1, 0.1), (2, 0.01), (3, 0.5)):
+        for seed, chance in ((1, 0.1), (2, 0.003), (3, 0.5), (7, 0.01)):
             log = self.drawn(seed, chance=chance)
             status, out, _ = self.ask(*FILES, "--log", log)
             found = self.results(out)
@@ -70,15 +71,15 @@ class Passes(WithFolder):
             self.assertEqual({0, 1}, set(statuses))
 
     def test_all_breaches_beside_many_calls(self):
-        log = self.drawn(4)
-        out = self.ask(*FILES, "--log", log, "--rearm", "--json")[1]
-        events = [json.loads(line) for line in out.splitlines()]
-        for name, path in zip(NAMES, FILES):
-            said = self.ask(path, log, "--rearm")[1]
-            wanted = [int(line.split()[1].strip(",")) for line in said.splitlines() if line.startswith("  instant ") and ", row " in line]
-            told = [it["instant"] for it in events if it["event"] == "broken" and it["requirement"] == name]
-            self.assertEqual(told[:100], wanted)
-            self.assertEqual([it["breaches"] for it in events if it["event"] == "end" and it["requirement"] == name], [len(told)])
+        for log in (self.drawn(4), self.drawn(8, chance=0.003)):
+            out = self.ask(*FILES, "--log", log, "--rearm", "--json")[1]
+            events = [json.loads(line) for line in out.splitlines()]
+            for name, path in zip(NAMES, FILES):
+                said = self.ask(path, log, "--rearm")[1]
+                wanted = [int(line.split()[1].strip(",")) for line in said.splitlines() if line.startswith("  instant ") and ", row " in line]
+                told = [it["instant"] for it in events if it["event"] == "broken" and it["requirement"] == name]
+                self.assertEqual(told[:100], wanted)
+                self.assertEqual([it["breaches"] for it in events if it["event"] == "end" and it["requirement"] == name], [len(told)])
 
     def test_pieces_beside_whole_and_confirmed(self):
         for more in ([], ["--rearm"]):
