@@ -15,6 +15,8 @@ VERDICTS = {0: rf"valid\nsatisfiable\n{EXAMPLE}", 1: rf"not valid\n(?:satisfiabl
 AUTOMATON, LUSTRE, C, TABLES = r"automaton 2\nvariables .*\nend\n", r"node observer\(.*\ntel\n", r"static int st;\n.*\n\}\n", r"enum \{ states = .*\n\}\n"
 ALL = rf"--- automaton\n{AUTOMATON}--- lustre\n{LUSTRE}--- c\n{C}"
 
+REPLAYED = r"(?!.*[01][01])(?!.*\n\n)[01][01\n]*(?<=\n)"  # lines of one digit, without a group that is repeated, which takes 60 bytes a line
+
 # What each command's answer is, by its status.
 WRITTEN: Dict[str, Dict[int, str]] = {
     "check": VERDICTS,
@@ -28,8 +30,8 @@ WRITTEN: Dict[str, Dict[int, str]] = {
     "synth": {0: r"realisable\nstatic int st;\n.*\n\}\n", 1: r"unrealisable\nbound \d+\n(?:state \d+ rank \d+ input (?:[01]+|-)\n)+end\n"},
     "certify": {0: r"certified \d+\n", 1: r"refused (?:access \d+|pair \d+ \d+)\n"},
     "convert": {0: r"automaton [12]\nvariables .*\nend\n"},
-    "replay-lustre": {0: r"(?:[01]\n)+"},
-    "replay-c": {0: r"(?:[01]\n)+"},
+    "replay-lustre": {0: REPLAYED},
+    "replay-c": {0: REPLAYED},
     "sweep": {0: r"formulas \d+\nvalid \d+\nsatisfiable \d+\nover \d+\nstates \d+\n"},
 }
 SHAPES = {command: {status: re.compile(shape, re.S) for status, shape in shapes.items()} for command, shapes in WRITTEN.items()}

@@ -32,7 +32,7 @@ ASK = (
     Command("review", "FILE", "what a colleague would ask of a requirement: boundaries, near misses, a telling example, what decides nothing"),
     Command("draw", "FILE", "a report, a formula's behaviours, an automaton or a trace as text, SVG or VCD"),
     Command("tests", "FILE", "a test suite that tells the requirement from every other of as many states"),
-    Command("watch", "FILE LOG", "a log in CSV or VCD against a requirement, by the names of its variables"),
+    Command("watch", "FILE LOG", "a log, recorded or live, against one requirement or many, by the names of their variables"),
     Command("tables", "FILE", "an observer as C tables for several instances, or several requirements that share the code"),
     Command("patterns", "[NAME]", "the patterns of requirements with their sentences, or one of them in full"),
     Command("pattern", "NAME ..", "a requirement made from a pattern, its propositions and its numbers"),

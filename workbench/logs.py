@@ -1,276 +1,231 @@
-"""Reads logs: a CSV file with a header, or a VCD file, as rows, each with its label and a digit for each variable of a requirement."""
-import csv
-import itertools
+"""Logs of all formats as rows of the cells that variables have, with signals, held values, even times and gaps."""
 import os
-import re
-from typing import Any, Dict, Iterable, Iterator, List, Mapping, Optional, Sequence, TextIO, Tuple
+from dataclasses import dataclass, field
+from itertools import repeat
+from typing import Any, Callable, Dict, Iterator, List, Mapping, Optional, Protocol, Sequence, Tuple, Union
+
+from cells import WANTED, BadCell, Cell, truth_of
+from dumps import Dump
+from json_rows import JsonLines
+from lines import LogFault
+from monitors import MOST_KNOWN, Codes, NoTruth, cells_at
+from signals import Expression, Signal
+from tabular import Block, Table, cut
+from times import UNITS, Clock, Sampler, Steps, duration, is_time
 
 Row = Tuple[str, str]  # a label and a letter
-Changes = List[Tuple[str, str]]  # codes of signals and their values
-
-LONGEST_TIME = 40  # characters of a time in a VCD file
-MOST_INSTANTS = 100_000_000  # that --period makes
-TRUTHS = {"0": "0", "1": "1", "false": "0", "true": "1", "off": "0", "on": "1", "no": "0", "yes": "1"}
+KINDS = {".vcd": "vcd", ".jsonl": "jsonl", ".ndjson": "jsonl", ".json": "jsonl"}
 
 
-class LogFault(Exception):
-    """What is wrong with a log, in one line."""
+class Log(Protocol):
+    """A log that is being read: it finds columns, and then gives its rows."""
+
+    shown: str
+    names: List[str]
+    label: Optional[int]  # the column of the labels
+    wanted: Sequence[int]  # the columns that are read
+    reads_label: bool  # whether the column of the labels is one of a variable or a signal too
+
+    @property
+    def shift(self) -> int:
+        """How many of the columns are left out in front of the cells of a row."""
+
+    def column(self, name: str, variable: str, number: bool = False) -> int:
+        """The place of a column, which a variable is read from, and which may have numbers."""
+
+    def blocks(self) -> Iterator[Block]:
+        """The rows."""
 
 
-def named(columns: Mapping[str, str], variable: str) -> str:
-    """What a variable is called in the log."""
-    return columns.get(variable, variable)
+@dataclass
+class Settings:
+    """How a log is read."""
 
-
-def opened(path: str) -> TextIO:
-    """The log as text."""
-    return open(path, encoding="utf-8-sig", errors="replace", newline="")
+    path: str
+    kind: Optional[str] = None  # csv, jsonl or vcd
+    columns: Mapping[str, str] = field(default_factory=dict)  # of variables that have another name in the log
+    signals: Sequence[Signal] = ()
+    holds: bool = False
+    separator: Optional[str] = None
+    follow: bool = False
+    clock: Optional[str] = None
+    period: Optional[str] = None
+    time: Optional[str] = None  # the column of times
+    unit: str = "s"
+    gap: Optional[int] = None
+    anew: bool = False
+    pulses: bool = False
 
 
 def kind_of(path: str) -> str:
-    """`vcd` or `csv`, by the ending of the name."""
-    return "vcd" if os.path.splitext(path)[1].lower() == ".vcd" else "csv"
+    """`csv`, `jsonl` or `vcd`, by the ending of the name."""
+    stem = path[:-3] if path.lower().endswith(".gz") else path
+    return KINDS.get(os.path.splitext(stem)[1].lower(), "csv")
 
 
-# ---- CSV
+def open_log(settings: Settings) -> Log:
+    kind = settings.kind or kind_of(settings.path)
+    if kind == "vcd":
+        if settings.time or settings.gap or settings.follow or settings.pulses or settings.unit != "s":
+            raise LogFault("--time, --unit, --gap, --any and --follow are not for VCD files")
+        if settings.period is not None and not (settings.period.isdigit() and 0 < int(settings.period[:40])):
+            raise LogFault(f"--period {settings.period}: of a VCD file it is a number of units of time")
+        return Dump(settings.path, settings.clock, int(settings.period[:40]) if settings.period else None)
+    if settings.clock or settings.period and not duration(settings.period):
+        raise LogFault("--clock and a --period without a unit are for VCD files; of other files --period is a time, as 10ms")
+    if kind == "jsonl":
+        return JsonLines(settings.path, settings.follow)
+    return Table(settings.path, settings.separator, settings.follow)
 
 
-def from_csv(path: str, variables: Sequence[str], columns: Mapping[str, str]) -> Iterator[Row]:
-    """The rows of a CSV file. A row is labelled by its first column that is no variable, or else by its line."""
-    with opened(path) as file:
-        head = file.readline()
-        bare = re.sub(r'"[^"]*"', "", head)
-        marks = [mark for mark in ",;\t" if mark in bare]
-        csv.field_size_limit(1 << 30)
-        reader = csv.reader(itertools.chain([head], file), delimiter=marks[0] if marks else ",", skipinitialspace=True)
-        try:
-            names = [name.strip() for name in next(reader, [])]
-            places = [column_of(path, names, named(columns, variable), variable) for variable in variables]
-            label = next((i for i in range(len(names)) if i not in places), None)
-            for line, row in _full_rows(path, reader, names):
-                yield _csv_row(path, line, row, list(zip(variables, places)), label)
-        except csv.Error as error:
-            raise LogFault(f"{path}:{reader.line_num}: {error}") from None
+class Known(Dict[str, bool]):
+    """A signal that is made of one column: its values by the cells."""
+
+    def __init__(self, value: Callable[[Sequence[str]], bool], place: int) -> None:
+        super().__init__()
+        self.value, self.place = value, place
+
+    def __missing__(self, text: str) -> bool:
+        if len(self) >= MOST_KNOWN:
+            self.clear()
+        self[text] = self.value((text,))
+        return self[text]
+
+    def __call__(self, row: Sequence[str]) -> bool:
+        return self[row[self.place]]
 
 
-def _full_rows(path: str, reader: Any, names: Sequence[str]) -> Iterator[Tuple[int, List[str]]]:
-    """The rows with their lines. An empty line is none; but of a file with one column it is an empty cell where others follow it."""
-    empty = None
-    for row in reader:
-        if not row:
-            empty = empty or reader.line_num
-            continue
-        if empty and len(names) == 1:
-            raise LogFault(f"{path}:{empty}: the row is empty")
-        if len(row) > len(names):
-            raise LogFault(f"{path}:{reader.line_num}: the row has {len(row)} cells, and the header {len(names)}")
-        yield reader.line_num, row
+class Source:
+    """A log and where the variables are in its rows."""
 
+    def __init__(self, settings: Settings, variables: Sequence[str]) -> None:
+        self.settings, self.log = settings, open_log(settings)
+        self.shown = self.log.shown
+        self.steps: Optional[Steps] = None
+        self.made: List[Callable[[Sequence[str]], Any]] = []  # the variables that are evaluated
+        signals = {it.name: it for it in settings.signals if it.expression}
+        everything = settings.holds or settings.pulses
+        self.raw = [name for name in variables if name not in signals and not everything]
+        raw = [self.log.column(settings.columns.get(name, name), name) for name in self.raw]
+        self.used: List[int] = list(raw)
+        evaluated = [name for name in variables if name in signals or everything]
+        readers = [self.reader(name, signals.get(name)) for name in evaluated]
+        self.find_label()
+        self.log.reads_label = self.log.label in self.used
+        shift = self.log.shift
+        self.log.wanted = self.used + ([self.log.label] if self.log.label is not None else [])
+        self.made = [reader() for reader in readers]
+        self.places = {name: place - shift for name, place in zip(self.raw, raw)}
+        self.kept = [place - shift for place in raw]
+        if self.made:
+            self.places = {name: place for place, name in enumerate([*self.raw, *evaluated])}
 
-def column_of(path: str, names: Sequence[str], wanted: str, variable: str) -> int:
-    """Where the column stands that a variable is read from."""
-    if names.count(wanted) == 1:
-        return names.index(wanted)
-    if wanted in names:
-        raise LogFault(f"{path}: {names.count(wanted)} columns are named {wanted}")
-    hint = "" if wanted != variable else f"; --column {variable}=NAME names another one"
-    raise LogFault(f"{path}: no column is named {wanted}; there are: {', '.join(names) or 'none'}{hint}")
+    def reader(self, name: str, signal: Optional[Signal]) -> Callable[[], Callable[[Sequence[str]], Any]]:
+        """Finds the columns of a variable that is evaluated; what is returned makes it, when it is known which column is the label."""
+        if signal is None:
+            place = self.use(self.settings.columns.get(name, name), name, False)
+            return lambda: Cell(name, place - self.log.shift, truth_of, self.settings.holds)
+        given, holds, begin = signal, self.settings.holds, len(self.used)
+        Expression(given, lambda column, number: self.use(column, "", number), False).whole()
+        places = set(self.used[begin:])
+        if len(places) == 1 and not holds:
+            return lambda: Known(Expression(given, lambda *_: 0, False).whole(), min(places) - self.log.shift)
+        return lambda: Expression(given, lambda column, _: self.log.column(column, "") - self.log.shift, holds).whole()
 
+    def use(self, name: str, variable: str, number: bool) -> int:
+        place = self.log.column(name, variable, number)
+        self.used.append(place)
+        return place
 
-def _csv_row(path: str, line: int, row: List[str], places: Sequence[Tuple[str, int]], label: Optional[int]) -> Row:
-    try:
-        word = "".join([TRUTHS[row[place]] if row[place] in TRUTHS else TRUTHS[row[place].strip().lower()] for _, place in places]) or "-"
-        return str(line) if label is None else row[label].strip(), word
-    except (KeyError, IndexError):
-        raise LogFault(_bad_row(path, line, row, places)) from None
+    def find_label(self) -> None:
+        """The column of the labels: the one of times, or the first that no variable is read from."""
+        if self.settings.time is not None:
+            self.log.label = self.log.column(self.settings.time, "")
+        elif not isinstance(self.log, Dump):
+            self.log.label = next((place for place in range(len(self.log.names)) if place not in self.used), None)
 
+    def blocks(self) -> Iterator[Block]:
+        """The instants, with the cells of the variables at their places."""
+        settings, log, unit = self.settings, self.log, UNITS[self.settings.unit]
+        blocks = log.blocks()
+        if self.made:
+            blocks = self.evaluated(blocks)
+        period = None if isinstance(log, Dump) or settings.period is None else duration(settings.period)
+        if period or settings.gap:
+            if log.label is None:
+                raise LogFault(f"{self.shown}: no column has times; --time names it")
+            return Sampler(Clock(self.shown, unit, settings.gap, settings.anew), period, settings.pulses).blocks(blocks)
+        return blocks if isinstance(log, Dump) or log.label is None else self.looked_at(blocks, unit)
 
-def _bad_row(path: str, line: int, row: Sequence[str], places: Sequence[Tuple[str, int]]) -> str:
-    for variable, place in places:
-        if place >= len(row):
-            return f"{path}:{line}: the row ends before the column of {variable}"
-        if row[place].strip().lower() not in TRUTHS:
-            return f"{path}:{line}: {variable} is '{row[place].strip()}', which is no truth; 0 and 1, false and true, off and on, no and yes are"
-    return f"{path}:{line}: the row ends before the column of its label"
-
-
-# ---- VCD
-
-
-class Vcd:
-    """A VCD file that is being read: where the signals are that are asked for, and their values by now."""
-
-    def __init__(self, path: str, signals: Iterable[str]) -> None:
-        self.path, self.signals = path, signals
-        self.line = 0
-        self.now: Optional[int] = None
-        self.scopes: List[str] = []
-        self.found: Dict[str, Dict[str, Tuple[str, str]]] = {name: {} for name in signals}  # of each its codes, each with a path and a width
-        self.codes: Dict[str, List[str]] = {}
-        self.values: Dict[str, str] = {}
-
-    def fault(self, message: str) -> LogFault:
-        return LogFault(f"{self.path}:{self.line}: {message}")
-
-    def tokens(self, file: TextIO) -> Iterator[str]:
-        for line in file:
-            self.line += 1
-            yield from line.split()
-
-    def block(self, tokens: Iterator[str]) -> List[str]:
-        """The words up to the next $end."""
-        words: List[str] = []
-        for word in tokens:
-            if word == "$end":
-                return words
-            words.append(word)
-        raise self.fault("the file ends where an $end is missing")
-
-    def declare(self, words: Sequence[str]) -> None:
-        """`$var wire 1 ! name [0]`: which of the signals that are asked for it is."""
-        if len(words) < 4:
-            raise self.fault("a $var has fewer than four words")
-        for name in (words[3], ".".join(self.scopes + [words[3]])):
-            if name in self.found:
-                self.found[name][words[2]] = (".".join(self.scopes + [words[3]]), words[1])
-
-    def settle(self) -> None:
-        """Behind the declarations: each signal is there, once, and one bit wide."""
-        for name, found in self.found.items():
-            if not found:
-                raise LogFault(f"{self.path}: no signal is named {name}")
-            if len(found) > 1:
-                paths = ", ".join(sorted(path for path, _ in found.values()))
-                raise LogFault(f"{self.path}: several signals are named {name}: {paths}; --column {name}=PATH names one")
-            code, (path, width) = next(iter(found.items()))
-            if width != "1":
-                raise LogFault(f"{self.path}: {path} has {width} bits, and a variable has one")
-            self.codes.setdefault(code, []).append(name)
-
-    def definitions(self, tokens: Iterator[str]) -> None:
-        for word in tokens:
-            if word == "$enddefinitions":
-                self.block(tokens)
-                return self.settle()
-            if word == "$scope":
-                self.scopes.append((self.block(tokens) + ["", ""])[1])
-            elif word == "$upscope":
-                self.block(tokens)
-                del self.scopes[-1:]
-            elif word == "$var":
-                self.declare(self.block(tokens))
-            elif word.startswith("$"):
-                self.block(tokens)
+    def looked_at(self, blocks: Iterator[Block], unit: int) -> Iterator[Block]:
+        """The same blocks; whether the steps of time are even is looked at."""
+        for number, block in enumerate(blocks):
+            if number == 0 and self.log.label is not None:
+                if self.settings.time or is_time(self.log.names[self.log.label], block.labels[0]):
+                    self.steps = Steps(unit)
+            bad = self.steps.block(block) if self.steps else None
+            if bad is None or not self.settings.time:
+                yield block
             else:
-                raise self.fault(f"{word} stands among the declarations")
-        raise LogFault(f"{self.path}: no $enddefinitions: this is no VCD file")
+                yield cut(block, 0, bad)
+                raise LogFault(f"{self.shown}:{block.lines[bad]}: '{block.labels[bad].strip()[:80]}' is no time")
 
-    def times(self, tokens: Iterator[str]) -> Iterator[Tuple[int, Optional[Changes]]]:
-        """The changes of each time: the time, and the values that signals take, in order. A time that stands twice is one time. A last
-        time without a change is where the file ends, and its changes are None."""
-        changes: Changes = []
-        first_time = None
-        for word in tokens:
-            if word[0] == "#":
-                time = self.time(word)
-                if self.now is not None and time > self.now:
-                    yield self.now, changes
-                    changes = []
-                self.now = time
-                first_time = time if first_time is None else first_time
-            elif word[0] in "01xXzZ":
-                changes.append((word[1:], word[0].lower()))
-            elif word[0] in "bBrR":
-                changes.append((next(tokens, ""), self.bit(word)))
-            elif word == "$comment":
-                self.block(tokens)
-            elif word[0] != "$":
-                raise self.fault(f"{word[:80]} is no change of a value")
-        if self.now is not None:
-            yield self.now, changes if changes or self.now == first_time else None
+    def evaluated(self, blocks: Iterator[Block]) -> Iterator[Block]:
+        """The blocks with the values of all variables, of which some are signals."""
+        for block in blocks:
+            rows: List[List[str]] = []
+            counts: List[int] = []
+            fault = None
+            for row, count in zip(block.rows, block.counts):
+                try:
+                    values = [row[place] for place in self.kept] + ["1" if made(row) else "0" for made in self.made]
+                except (BadCell, IndexError) as bad:
+                    place = sum(counts)
+                    fault = LogFault(f"{self.shown}:{block.lines[place]}: " + (str(bad) if isinstance(bad, BadCell) else self.missing(row)))
+                    block = block._replace(labels=block.labels[:place], lines=block.lines[:place])
+                    break
+                if rows and values == rows[-1]:
+                    counts[-1] += count
+                else:
+                    rows.append(values)
+                    counts.append(count)
+            if rows:
+                yield block._replace(rows=rows, counts=counts)
+            if fault:
+                raise fault
 
-    def time(self, word: str) -> int:
-        """The time that a word says, which is none before the last one."""
-        if not (word.isascii() and word[1:].isdigit()) or len(word) > LONGEST_TIME:
-            raise self.fault(f"{word[:80]} is no time of {LONGEST_TIME - 1} digits at most")
-        time = int(word[1:])
-        if self.now is not None and time < self.now:
-            raise self.fault(f"{word} is no time after #{self.now}")
-        return time
-
-    @staticmethod
-    def bit(word: str) -> str:
-        """The value of one bit that `b0001` gives; what has more than one bit, or is a real, stays as it is."""
-        bits = word[1:].lstrip("0") or "0"
-        return bits.lower() if word[0] in "bB" and word[1:] and len(bits) == 1 else word
-
-    def change(self, changes: Changes) -> None:
-        for code, value in changes:
-            for name in self.codes.get(code, ()):
-                self.values[name] = value
-
-    def word(self, names: Sequence[str], time: int) -> str:
-        for name in names:
-            if self.values.get(name) not in ("0", "1"):
-                value = self.values.get(name)
-                raise LogFault(f"{self.path}: at #{time} {name} " + (f"is {value[:80]}, which is no truth" if value else "has no value yet"))
-        return "".join([self.values[name] for name in names]) or "-"
+    def missing(self, row: Sequence[str]) -> str:
+        names = {place - self.log.shift: self.log.names[place] for place in self.used}
+        return f"the row ends before the column of {names[min(place for place in names if place >= len(row))]}"
 
 
-Times = Iterable[Tuple[int, Optional[Changes]]]
+def bad_cells(row: Sequence[str], variables: Sequence[str], places: Sequence[int]) -> Optional[str]:
+    """What is wrong with the cells of the variables in a row, or None."""
+    for variable, place in zip(variables, places):
+        if place >= len(row):
+            return f"the row ends before the column of {variable}"
+        if truth_of(row[place].strip()) is None:
+            return f"{variable} is '{row[place].strip()[:80]}', which is no {WANTED[truth_of]}"
+    return None
 
 
-def from_vcd(path: str, variables: Sequence[str], columns: Mapping[str, str], clock: Optional[str] = None, period: Optional[int] = None) -> Iterator[Row]:
-    """The rows of a VCD file: one at each rise of the clock, with the values before it; or one each so many units of time, from the
-    first time on; or else one at each time that the file has. A row is labelled by its time."""
-    names = [named(columns, variable) for variable in variables]
-    with opened(path) as file:
-        vcd = Vcd(path, dict.fromkeys(names + ([clock] if clock else [])))
-        tokens = vcd.tokens(file)
-        vcd.definitions(tokens)
-        times = vcd.times(tokens)
-        yield from _at_rises(vcd, times, names, clock) if clock else _at_periods(vcd, times, names, period) if period else _at_times(vcd, times, names)
-
-
-def _at_times(vcd: Vcd, times: Times, names: Sequence[str]) -> Iterator[Row]:
-    for time, changes in times:
-        if changes is not None:
-            vcd.change(changes)
-            yield f"#{time}", vcd.word(names, time)
-
-
-def _at_rises(vcd: Vcd, times: Times, names: Sequence[str], clock: str) -> Iterator[Row]:
-    for time, changes in times:
-        rises = any(value == "1" and clock in vcd.codes.get(code, ()) for code, value in changes or ())
-        if rises and vcd.values.get(clock) == "0":
-            yield f"#{time}", vcd.word(names, time)
-        vcd.change(changes or [])
-
-
-def _at_periods(vcd: Vcd, times: Times, names: Sequence[str], period: int) -> Iterator[Row]:
-    due = first = None
-    for time, changes in times:
-        if due is None or first is None:
-            due = first = time
-        if (time - first) // period > MOST_INSTANTS:
-            raise LogFault(f"{vcd.path}: from #{first} to #{time} there are {(time - first) // period} instants, and {MOST_INSTANTS} are the most")
-        while due < time:
-            yield f"#{due}", vcd.word(names, due)
-            due += period
-        if changes is None:
-            return
-        vcd.change(changes)
-    if due is not None and due == vcd.now:
-        yield f"#{due}", vcd.word(names, due)
+def letters_of(source: Source, variables: Sequence[str]) -> Iterator[Row]:
+    """The rows of a log, as pairs of a label and a letter."""
+    places = [source.places[name] for name in variables]
+    codes, cells = Codes(), cells_at(places)
+    for block in source.blocks():
+        at = 0
+        for row, count in zip(block.rows, block.counts):
+            try:
+                letter = codes.letters[ord(codes[cells(row)])]
+            except (NoTruth, IndexError):
+                raise LogFault(f"{source.shown}:{block.lines[at]}: {bad_cells(row, variables, places)}") from None
+            yield from zip((label.strip() for label in block.labels[at:at + count]), repeat(letter))
+            at += count
 
 
 def rows_of(path: str, variables: Sequence[str], columns: Mapping[str, str], kind: Optional[str] = None, clock: Optional[str] = None,
-            period: Optional[int] = None) -> Iterator[Row]:
-    """The rows of a log, as pairs of a label and a letter."""
-    kind = kind or kind_of(path)
-    if kind == "csv" and (clock or period):
-        raise LogFault("--clock and --period are for VCD files: each row of a CSV file is an instant")
-    try:
-        yield from from_vcd(path, variables, columns, clock, period) if kind == "vcd" else from_csv(path, variables, columns)
-    except OSError as error:
-        raise OSError(error.errno, error.strerror, path) from None
+            period: Union[int, None] = None) -> Iterator[Row]:
+    """The rows of a log, where nothing but its columns is told."""
+    settings = Settings(path, kind, columns, clock=clock, period=None if period is None else str(period))
+    return letters_of(Source(settings, variables), variables)

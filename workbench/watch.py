@@ -1,145 +1,29 @@
-"""`watch`: a log, in CSV or VCD, against a requirement: where it is broken first, or each time, by the program's observer."""
+"""`watch`: a log against requirements: where each is broken first, or each time; many in one pass, and live on a pipe."""
 import argparse
-import itertools
+import gc
+import os
 import sys
-from collections import deque
-from typing import Deque, Dict, Iterator, List, MutableSequence, Sequence, Tuple
+from typing import List, Sequence, Tuple, Union
 
 import limits
-import observers
+import single
+from confirmed import Confirmation, Unconfirmed
 from expand import Text
-from language import natural, parse
-from logs import LogFault, Row, rows_of
-from program import Program
+from joined import heading_of, named
+from judged import Judge
+from language import MOST_TEXT, natural, parse, read_text
+from lines import LogFault
+from logs import Settings, Source, letters_of
+from monitors import Heading, Monitor
+from program import Program, complain
 from shapes import is_number
-from waves import Run, instants, runs
+from signals import Signal, read_line, read_signals
+from times import UNITS, duration
+from watch_report import Lines, Text as TextReport, write_junit
+from waves import instants
 
-PIECE = 200_000  # rows that are replayed in one run: a trace has 1,000,000 instants at most
-BEFORE, BEHIND = 6, 2  # runs of equal rows that are shown before and after the first violation
-
-
-class Unconfirmed(Exception):
-    """The program does not confirm what the automaton's text says."""
-
-
-class Watch:
-    """A log that is being watched: the state in which the last piece ended, how many rows there were, and what is shown of them."""
-
-    def __init__(self, program: Program, text: str, rearm: bool) -> None:
-        self.program, self.rearm = program, rearm
-        self.automaton = program.automaton(text)
-        self.observer = program.observer(text)
-        if rearm:
-            rejecting = [state for state, accept in enumerate(self.automaton.accept) if not accept]
-            self.observer = observers.rearmed(self.observer, rejecting)
-        self.state = self.count = self.broken = 0
-        self.last = 0  # the last instant at which it is broken
-        self.before: Deque[Tuple[Run, str]] = deque(maxlen=BEFORE)  # runs of rows up to the first violation, each with its first label
-        self.after: List[Tuple[Run, str]] = []  # those that follow it: one more than is shown
-        self.violations: List[Tuple[int, str, str]] = []  # instant, label and letter of the first ones
-
-    def piece(self, rows: Sequence[Row], last: bool) -> None:
-        """Takes some more rows; `last` where no others follow."""
-        word = [letter for _, letter in rows]
-        answers = self.program.replay(observers.from_state(self.observer, self.state), word)
-        self.note(rows, [place for place, answer in enumerate(answers) if not answer])
-        if not last:
-            self.go_on(word)
-        self.count += len(rows)
-
-    def note(self, rows: Sequence[Row], broken: Sequence[int]) -> None:
-        """Keeps what is told of these rows."""
-        begun = 0 if self.violations else broken[0] + 1 if broken else len(rows)
-        self.broken += len(broken)
-        for place in broken[:max(0, MOST - len(self.violations))]:
-            self.violations.append((self.count + place, *rows[place]))
-        if broken:
-            self.last = self.count + broken[-1]
-        keep(self.before, self.count, rows[:begun])
-        if len(self.after) <= BEHIND:
-            keep(self.after, self.count + begun, rows[begun:])
-            del self.after[BEHIND + 1:]
-
-    def go_on(self, word: Sequence[str]) -> None:
-        """The state after a piece, by the automaton's text, confirmed by the program."""
-        state = reached = self.state
-        known: Dict[Tuple[int, str], Tuple[int, int]] = {}
-        for letter in word:
-            step = (state, letter)
-            if step not in known:
-                there = self.automaton.step(state, letter)
-                known[step] = (there, 0 if self.rearm and not self.automaton.accept[there] else there)
-            reached, state = known[step]
-        asked = observers.asks_state(observers.from_state(self.observer, self.state), reached)
-        if not self.program.replay(asked, word)[-1]:
-            raise Unconfirmed(f"the program does not confirm that the observer is in state {reached} after instant {self.count + len(word) - 1}")
-        self.state = state
-
-
-def keep(kept: MutableSequence[Tuple[Run, str]], first: int, rows: Sequence[Row]) -> None:
-    """Adds the runs of some rows, of which this is the first instant; one that goes on from those before stays one."""
-    for run in runs(letter for _, letter in rows):
-        begin, last = first + run.first, first + run.last
-        if kept and kept[-1][0].value == run.value:
-            old, label = kept[-1]
-            kept[-1] = Run(old.first, last, run.value), label
-        else:
-            kept.append((Run(begin, last, run.value), rows[run.first][0]))
-
-
-MOST = 100  # violations that are listed
-
-
-def pieces(rows: Iterator[Row], size: int) -> Iterator[Tuple[List[Row], bool]]:
-    """The rows in pieces, each with whether it is the last."""
-    part = list(itertools.islice(rows, size))
-    while part:
-        following = list(itertools.islice(rows, size))
-        yield part, not following
-        part = following
-
-
-# ---- what is said
-
-
-def place_of(first: int, last: int) -> str:
-    return str(first) if first == last else f"{first} .. {last}"
-
-
-def shown_rows(variables: Sequence[str], watch: Watch) -> Iterator[str]:
-    """The rows around the first violation, a line for each run of equal ones."""
-    at = watch.violations[0][0]
-    lines = [(run.first, run.last, label, run.value) for run, label in watch.before]
-    first, last, label, letter = lines.pop()
-    if first < last:
-        lines.append((first, at - 1, label, letter))
-    lines.append((at, at, watch.violations[0][1], letter))
-    lines += [(run.first, run.last, label, run.value) for run, label in watch.after[:BEHIND]]
-    places = [place_of(first, last) for first, last, _, _ in lines]
-    wide, labels = max(map(len, places + ["instant"])), max([len(line[2]) for line in lines] + [3])
-    yield f"      {'instant':>{wide}}  {'row':>{labels}}  " + "  ".join(variables)
-    for place, (first, last, label, letter) in zip(places, lines):
-        digits = "  ".join(digit.rjust(len(name)) for name, digit in zip(variables, letter))
-        yield f"{'  --> ' if first == at else '      '}{place:>{wide}}  {label:>{labels}}  {digits}".rstrip()
-
-
-def said(variables: Sequence[str], watch: Watch) -> Iterator[str]:
-    if not watch.broken:
-        yield f"holds at each of {instants(watch.count)}"
-        return
-    at, label, _ = watch.violations[0]
-    more = "" if watch.rearm else f"; of {instants(watch.count)} it is broken at {watch.broken}, the last of them {watch.last}"
-    yield f"broken at instant {at}, row {label}{more}"
-    yield from shown_rows(variables, watch)
-    if watch.rearm:
-        yield f"{watch.broken} violation{'s' * (watch.broken > 1)} in {instants(watch.count)}; after each the requirement begins anew:"
-        for at, label, letter in watch.violations:
-            yield f"  instant {at}, row {label}: " + " ".join(f"{name}={digit}" for name, digit in zip(variables, letter))
-        if watch.broken > len(watch.violations):
-            yield f"  and {watch.broken - len(watch.violations)} more"
-
-
-# ---- the command
+PIECE = 200_000  # rows that are replayed in one run where one requirement is watched: a trace has 1,000,000 instants at most
+MOST_PIECE = limits.TRACE_LINES
 
 
 def column(word: str) -> Tuple[str, str]:
@@ -155,48 +39,175 @@ def at_least_one(word: str) -> int:
     return natural(word)
 
 
+def signal(word: str) -> Signal:
+    try:
+        found = read_line(word, "--let")
+    except LogFault:
+        found = None
+    if found is None or not found.expression:
+        raise argparse.ArgumentTypeError(f"{word} is not NAME = EXPRESSION")
+    return found
+
+
+def length(word: str) -> int:
+    found = duration(word)
+    if found is None:
+        raise argparse.ArgumentTypeError(f"{word} is no length of time, as 10ms; its units are {', '.join(UNITS)}")
+    return found
+
+
+def period(word: str) -> str:
+    if duration(word) is None:
+        at_least_one(word)
+    return word
+
+
+def separator(word: str) -> str:
+    mark = "\t" if word in ("tab", "\\t") else word
+    if len(mark) != 1 or mark in '"\r\n' or ord(mark) > 127:
+        raise argparse.ArgumentTypeError(f"{word} is not one character, or tab")
+    return mark
+
+
 def add_arguments(parser: argparse.ArgumentParser) -> None:
+    parser.epilog = ("FILE LOG replays one requirement whole; FILE .. --log LOG watches many in one pass, and live. LOG is CSV, JSON lines or "
+                     "VCD, by its name's ending, packed by gzip or not; - is standard input. Status 1 where one is broken, 8 where the log is bad.")
+    setattr(parser, "parse_args", parser.parse_intermixed_args)  # requirements may stand on both sides of options
     parser.add_argument("file", metavar="FILE")
-    parser.add_argument("log", metavar="LOG", help="a CSV file with a header, or a VCD file (by its name's ending .vcd)")
+    parser.add_argument("more", metavar="LOG | FILE", nargs="*", help="the log, or with --log more requirements")
+    parser.add_argument("--log", metavar="LOG", help="watches all requirements in one pass over this log")
     parser.add_argument("--rearm", action="store_true", help="all violations: after each one the requirement begins anew")
-    parser.add_argument("--clock", metavar="NAME", help="VCD: an instant is a rise of this signal, with the values before it")
-    parser.add_argument("--period", metavar="N", type=at_least_one, help="VCD: an instant is each Nth unit of time, from the first time on")
-    parser.add_argument("--column", metavar="VARIABLE=NAME", type=column, action="append", default=[],
-                        help="the column or signal of a variable, where it has another name")
-    parser.add_argument("--csv", action="store_const", const="csv", dest="kind", help="the log is CSV, whatever its name")
-    parser.add_argument("--vcd", action="store_const", const="vcd", dest="kind", help="the log is VCD, whatever its name")
+    parser.add_argument("--until-broken", action="store_true", help="with --log: ends at the first breach")
+    parser.add_argument("--confirm", action="store_true", help="with --log: replays all of the log by the program's observers, in pieces")
+    parser.add_argument("--json", action="store_true", help="with --log: reports in JSON, a line for each breach, and for each requirement at the end")
+    parser.add_argument("--junit", metavar="OUT", help="with --log: writes the results as a report of tests in JUnit's XML")
+    parser.add_argument("--piece", metavar="N", type=at_least_one, help=f"the rows of one replay, {MOST_PIECE} at most (else that, and {PIECE} without --log)")
     parser.add_argument("--trace", action="store_true", help="writes the trace that replay-c takes, and judges nothing")
-    parser.add_argument("--piece", metavar="N", type=at_least_one, default=PIECE, help=f"the rows of one replay, 1,000,000 at most (else {PIECE})")
+    add_reading(parser.add_argument_group("how the log is read"))
+
+
+def add_reading(group: "argparse._ArgumentGroup") -> None:
+    group.add_argument("--column", metavar="VARIABLE=NAME", type=column, action="append", default=[],
+                       help="the column or signal of a variable, where it has another name")
+    group.add_argument("--let", metavar="'NAME = EXPRESSION'", type=signal, action="append", default=[],
+                       help="a variable that is made of columns, as 'fast = speed > 30.5'")
+    group.add_argument("--signals", metavar="LIST", help="a file of such lines, each with a comment that says what the signal means")
+    group.add_argument("--hold", action="store_true", help="a cell that is empty or not a value has the last value")
+    group.add_argument("--time", metavar="NAME", help="the column of times; else the first one that is no variable")
+    group.add_argument("--unit", choices=list(UNITS), default="s", help="the unit of times that are numbers (else s)")
+    group.add_argument("--period", metavar="TIME | N", type=period,
+                       help="an instant is each so much time, as 10ms, with the last row before it; VCD: each Nth unit of time")
+    group.add_argument("--any", action="store_true", help="with --period: what was true in any row since the last instant is true")
+    group.add_argument("--gap", metavar="TIME", type=length, help="refuses rows that are further apart")
+    group.add_argument("--anew", action="store_true", help="with --gap: begins anew after a gap")
+    group.add_argument("--clock", metavar="NAME", help="VCD: an instant is a rise of this signal, with the values before it")
+    group.add_argument("--separator", metavar="MARK", type=separator, help="CSV: what is between the cells; tab is one")
+    group.add_argument("--follow", action="store_true", help="waits for more of a log that grows, also where another file takes its place")
+    for kind, what in (("csv", "CSV"), ("jsonl", "JSON lines"), ("vcd", "VCD")):
+        group.add_argument(f"--{kind}", action="store_const", const=kind, dest="kind", help=f"the log is {what}, whatever its name")
+
+
+def usage(options: argparse.Namespace) -> str:
+    """What is wrong with the words, or nothing."""
+    if options.log is None and len(options.more) != 1:
+        return "a requirement and a log, or requirements and --log LOG, are expected"
+    if options.log is None:
+        alone = [word for word in ("until_broken", "confirm", "json", "junit", "anew") if getattr(options, word)]
+        return f"--{alone[0].replace('_', '-')} is for --log LOG" if alone else ""
+    if options.trace and (options.more or options.anew):
+        return "--trace writes the trace of one requirement, without --anew"
+    if options.any and not options.period or options.anew and not options.gap:
+        return "--any is for --period" if options.any else "--anew is for --gap"
+    if options.shown == "-" and options.log == "-":
+        return "a requirement and the log cannot both be standard input"
+    if options.follow and options.log == "-":
+        return "--follow is for a file"
+    return ""
 
 
 def run(options: argparse.Namespace, program: Program) -> int:
-    text = Text(options.file, options.shown).text
-    if program.fault(text):
-        program.ask("check", text)
-    variables = parse(text).variables
+    message = usage(options)
+    if message:
+        complain(f"ask watch: {message}")
+        return 2
+    log = options.more[0] if options.log is None else options.log
+    paths = [options.shown] + (options.more if options.log is not None else [])
     try:
-        return judged(options, program, text, variables)
+        found = [requirement(options, program, name, path) for name, path in named(paths)]
+        return judged(options, program, log, found)
     except LogFault as fault:
-        print(f"ask watch: {fault}", file=sys.stderr)
+        sys.stdout.flush()
+        complain(f"ask watch: {fault}")
         return 8
     except Unconfirmed as fault:
-        print(f"ask watch: {fault}", file=sys.stderr)
+        sys.stdout.flush()
+        complain(f"ask watch: {fault}")
         return 125
 
 
-def judged(options: argparse.Namespace, program: Program, text: str, variables: Sequence[str]) -> int:
+def requirement(options: argparse.Namespace, program: Program, name: str, path: str) -> Tuple[Heading, str]:
+    """A requirement, and its text in the language. What the program refuses is explained by the names that are left in the options."""
+    if path != options.shown:
+        options.file = options.shown = path
+    source = Text(options.file, path)
+    text = source.text
+    if program.fault(text):
+        program.ask("check", text)
+    head = heading_of(source.source.text.encode("latin-1").decode("utf-8", "replace"))
+    return Heading(name, path, *head, parse(text).variables), text
+
+
+def settings_of(options: argparse.Namespace, log: str, variables: Sequence[str]) -> Settings:
     unknown = [name for name, _ in options.column if name not in variables]
     if unknown:
         raise LogFault(f"--column: {unknown[0]} is no variable of {options.shown}; it has: {', '.join(variables) or 'none'}")
-    rows = rows_of(options.log, variables, dict(options.column), options.kind, options.clock, options.period)
+    strange = [it.name for it in options.let if it.name not in variables]
+    if strange:
+        raise LogFault(f"--let: {strange[0]} is no variable of a requirement; these are: {', '.join(variables) or 'none'}")
+    listed = read_signals(read_text(options.signals, MOST_TEXT).encode("latin-1").decode("utf-8", "replace"), options.signals) if options.signals else []
+    return Settings(log, options.kind, dict(options.column), [*listed, *options.let], options.hold, options.separator, options.follow, options.clock,
+                    options.period, options.time, options.unit, options.gap, options.anew, options.any)
+
+
+def judged(options: argparse.Namespace, program: Program, log: str, found: List[Tuple[Heading, str]]) -> int:
+    variables = list(dict.fromkeys(name for heading, _ in found for name in heading.variables))
+    source = Source(settings_of(options, log, variables), variables)
     if options.trace:
-        for _, letter in rows:
+        for _, letter in letters_of(source, variables):
             print(letter)
         return 0
-    watch = Watch(program, text, options.rearm)
-    for part, last in pieces(rows, min(options.piece, limits.TRACE_LINES)):
-        watch.piece(part, last)
-    if watch.count == 0:
-        raise LogFault(f"{options.log}: there is no instant")
-    print("\n".join(said(variables, watch)))
-    return 1 if watch.broken else 0
+    if options.log is None:
+        status = single.judge(program, found[0][1], variables, letters_of(source, variables), options.rearm, min(options.piece or PIECE, MOST_PIECE), log)
+        tell_steps(source)
+        return status
+    monitors = [Monitor(heading, text, program.automaton(text), [source.places[name] for name in heading.variables], options.rearm)
+                for heading, text in found]
+    return watched(options, program, source, monitors)
+
+
+def watched(options: argparse.Namespace, program: Program, source: Source, monitors: List[Monitor]) -> int:
+    """All requirements in one pass."""
+    gc.set_threshold(1_000_000)  # rows are many objects, and no cycles
+    report: Union[Lines, TextReport] = Lines() if options.json else TextReport(source.settings.signals)
+    judge = Judge(monitors, report, Confirmation(program, options.confirm), min(options.piece or MOST_PIECE, MOST_PIECE), options.until_broken)
+    try:
+        judge.run(source.shown, source.blocks())
+    except LogFault as fault:
+        before = f"; {instants(judge.count)} before it {'is' if judge.count == 1 else 'are'} judged" if judge.count else ""
+        raise LogFault(f"{fault}{before}") from None
+    except BaseException as end:
+        if end.__class__.__name__ == "Stopped" and judge.count:  # a signal ends a log that has no end of its own
+            report.end(monitors, judge.count)
+        raise
+    if judge.count == 0:
+        raise LogFault(f"{source.shown}: there is no instant")
+    report.end(monitors, judge.count)
+    if options.junit:
+        write_junit(monitors, judge.count, os.path.basename(source.shown), options.junit)
+    tell_steps(source)
+    return 1 if any(it.breaches for it in monitors) else 0
+
+
+def tell_steps(source: Source) -> None:
+    if source.steps and source.steps.told():
+        complain(f"ask watch: {source.shown}: {source.steps.told()}")
