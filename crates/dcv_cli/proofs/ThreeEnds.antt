@@ -82,19 +82,19 @@ text_no_input Open is = absurd (true≢false (sym is))
 text_no_input Read is = absurd (true≢false (sym is))
 text_no_input _ is = refl
 
-input_of : (refusal : Refusal) (a b c d : ℕ) → IsTrue (is_of_taking refusal) → RisesIf (is_open refusal) a b → RisesIf (is_read refusal) c d
+pub input_of : (refusal : Refusal) (a b c d : ℕ) → IsTrue (is_of_taking refusal) → RisesIf (is_open refusal) a b → RisesIf (is_read refusal) c d
     → HasInputCause (status_of refusal) a b c d
 input_of Write a b c d is opened read = absurd (true≢false (sym is))
 input_of Open a b c d is opened read = inl (opened, read)
 input_of Read a b c d is opened read = inr (opened, read)
 input_of _ a b c d is opened read = (opened, read)
 
-no_cause : (status : Status) (a b c d : ℕ) → IsFalse (is_input status) → NoneRises a b c d → HasInputCause status a b c d
+pub no_cause : (status : Status) (a b c d : ℕ) → IsFalse (is_input status) → NoneRises a b c d → HasInputCause status a b c d
 no_cause Input a b c d not none = absurd (true≢false not)
 no_cause Output a b c d not none = inl none
 no_cause _ a b c d not none = none
 
-risen : (b : Bool) (before after : ℕ) → RisesIf b before after → OnTrue b (IsTrue (has_risen before after))
+pub risen : (b : Bool) (before after : ℕ) → RisesIf b before after → OnTrue b (IsTrue (has_risen before after))
 risen true before after rises = rises.risen
 risen false before after rises = tt
 
@@ -242,7 +242,7 @@ answers_moved moves is = record { ends = moved moves is.ends; no_input = is.no_i
 -- ---- what was read
 
 -- where no input failed, no count has risen
-no_input_refusal : (result : Result Status Refused) → IsFalse (is_input (ending result)) → (is_open_refusal result ≡ false) × (is_read_refusal result ≡ false)
+pub no_input_refusal : (result : Result Status Refused) → IsFalse (is_input (ending result)) → (is_open_refusal result ≡ false) × (is_read_refusal result ≡ false)
 no_input_refusal (Ok status) not = (refl, refl)
 no_input_refusal (Err refused) not = by refused.refusal not
   where

@@ -10,19 +10,21 @@ pub use Rattle.dcv_cli.specs.declared.budget_line.Excess.{Excess}
 pub use Rattle.dcv_cli.specs.declared.budget_line.Excess.TheVariants.{Nodes, States}
 pub use Rattle.dcv_cli.specs.declared.budget_line.Over.{Over}
 pub use Rattle.dcv_cli.specs.declared.faults.AutomatonFault.TheVariants.{Length, Syntax, Table}
-pub use Rattle.dcv_cli.specs.declared.faults.FormulaFault.TheVariants.{Declarations, Outputs}
+pub use Rattle.dcv_cli.specs.declared.faults.FormulaFault.TheVariants.{Declarations, Names, Outputs}
 pub use Rattle.dcv_cli.specs.declared.faults.TraceFault.{TraceFault}
 pub use Rattle.dcv_cli.specs.declared.faults.TraceFault.TheVariants.{Empty, Length as TraceLength, Line}
 pub use Rattle.dcv_cli.specs.declared.refusal.Refusal.{Refusal}
-pub use Rattle.dcv_cli.specs.declared.refusal.Refusal.TheVariants.{Budget, Formula, Observer as ObserverRefusal, Open, Product, Read, Trace, Write}
+pub use Rattle.dcv_cli.specs.declared.refusal.Refusal.TheVariants.{Budget, Formula, Observer as ObserverRefusal, Open, Product, Read, Trace, Tuples, Write}
 pub use Rattle.dcv_cli.specs.declared.refused.Refused.{Refused}
 pub use Rattle.dcv_cli.specs.declared.refused.Which.{Which}
-pub use Rattle.dcv_cli.specs.declared.refused.Which.TheVariants.{First, Only, Second}
+pub use Rattle.dcv_cli.specs.declared.refused.Which.TheVariants.{First, Number, Only, Second}
 pub use Rattle.dcv_cli.specs.declared.status.Status.{Status}
 pub use Rattle.dcv_cli.specs.declared.status.Status.TheVariants.{Automaton as StatusAutomaton, Budget as StatusBudget, Formula as StatusFormula}
 pub use Rattle.dcv_cli.specs.declared.status.Status.TheVariants.{Observer as StatusObserver, Trace as StatusTrace}
 pub use Rattle.dcv_cli.specs.declared.status.Status.TheVariants.{Done, Input, Memory, NotValid, Output, Usage, Valid}
-pub use Rattle.dcv_command.specs.Request.{Certify, Convert, Implies, IsTaken, Replay, Report, Request, Stuck, Sweep, Synth, files_of}
+pub use Rattle.dcv_command.specs.Request.{Certify, Convert, Implies, IsTaken, Replay, Report, Request, Set, Stuck, Sweep, Synth, files_of}
+pub use Rattle.dcv_command.specs.declared.words.SetQuestion.{SetQuestion}
+pub use Rattle.dcv_command.specs.declared.words.SetQuestion.TheVariants.{Follows, Together}
 pub use Rattle.dcv_command.specs.declared.words.Subset.{Subset}
 pub use Rattle.dcv_command.specs.declared.words.Version.{Version}
 pub use Rattle.dcv_command.specs.declared.words.Version.TheVariants.{One, Two}

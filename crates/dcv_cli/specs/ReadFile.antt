@@ -27,6 +27,7 @@ pub record IsRead (text : List ℕ) (file : PlainFile) (formula : FormulaFile) :
   pub declared : formula.core.declared ≡ length file.variables
   pub steps : formula.core.steps ≡ map without_core (steps_of_file file)
   pub core : IsCore formula.core
+  pub goal : formula.goal ≡ file.goal.span.start
 
 pub record WasRead (formula : FormulaFile) : Type 0 where
   pub text : List ℕ

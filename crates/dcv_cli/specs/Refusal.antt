@@ -4,14 +4,15 @@
 --     most_observer_bytes    how many the text of an observer may have
 --     words_of refusal       the words of its line, as `fault syntax at 12`
 --     over_words over        those of the first step that is over the limits, as `budget states 30000 at 12 step 3`
---     ended which words      the words where a request reads two formula files, and this one is refused
+--     tuples_words limit     those of a set whose automata have too many tuples of states, as `budget tuples 5000000`
+--     ended which words      the words where a request reads several formula files, and this one is refused
 --     message_of refused     the line
 use Rattle.std.specs.Fmt.{decimal}
 use Rattle.std.specs.Prelude.{ℕ, Bool, true, false, List, ◌++◌, Result, Ok, Err, if◌then◌else◌, codes}
 use Rattle.dcv_cli.specs.Common.{ObsFault, ReadFault}
 use Rattle.dcv_cli.specs.Common.{ScopeFault, line, Excess, States, Nodes, Over, Refusal, Open, Read, Formula, ObserverRefusal as Observer}
-use Rattle.dcv_cli.specs.Common.{Trace, Budget, Product, Write, Declarations, Outputs, Length as AutomatonLength, Syntax as AutomatonSyntax}
-use Rattle.dcv_cli.specs.Common.{Table as AutomatonTable, TraceFault, Line, Empty, TraceLength, Refused, Which, Only, First, Second, Status}
+use Rattle.dcv_cli.specs.Common.{Trace, Budget, Product, Tuples, Write, Declarations, Outputs, Names, Length as AutomatonLength, Syntax as AutomatonSyntax}
+use Rattle.dcv_cli.specs.Common.{Table as AutomatonTable, TraceFault, Line, Empty, TraceLength, Refused, Which, Only, First, Second, Number, Status}
 use Rattle.dcv_cli.specs.Common.{StatusFormula, StatusBudget, Input, Output, Memory as StatusMemory, StatusAutomaton, StatusTrace}
 use Rattle.dcv_cli.specs.Common.{StatusObserver}
 use Rattle.dcv_automaton_read.specs.declared.faults.AutoFault.{AutoFault}
@@ -51,6 +52,7 @@ status_of (Observer fault) = StatusObserver
 status_of (Trace fault) = StatusTrace
 status_of (Budget over) = StatusBudget
 status_of (Product excess limit) = StatusBudget
+status_of (Tuples limit) = StatusBudget
 status_of Write = Output
 status_of Memory = StatusMemory
 
@@ -90,6 +92,7 @@ formula_words (Reading fault) = reading_words fault
 formula_words (Scope fault) = scope_words fault
 formula_words Declarations = fault_words (codes "declarations")
 formula_words Outputs = fault_words (codes "outputs")
+formula_words (Names at) = fault_words_at (codes "names") at
 
 abbrev pub automaton_words : AutomatonFault → List ℕ
 automaton_words AutomatonLength = fault_words (codes "automaton length")
@@ -119,6 +122,10 @@ over_words over =
 abbrev pub product_words : Excess → ℕ → List ℕ
 product_words excess limit = codes "budget " ++ excess_word_of excess ++ codes " " ++ decimal limit ++ codes " in product"
 
+-- more tuples come before an answer than this
+abbrev pub tuples_words : ℕ → List ℕ
+tuples_words limit = codes "budget tuples " ++ decimal limit
+
 abbrev pub words_of : Refusal → List ℕ
 words_of Open = fault_words (codes "open")
 words_of Read = fault_words (codes "read")
@@ -128,14 +135,16 @@ words_of (Observer fault) = observer_words fault
 words_of (Trace fault) = trace_words fault
 words_of (Budget over) = over_words over
 words_of (Product excess limit) = product_words excess limit
+words_of (Tuples limit) = tuples_words limit
 words_of Write = fault_words (codes "write")
 words_of Memory = fault_words (codes "memory")
 
--- of one of two formula files that a request reads, the line says which
+-- of one of several formula files that a request reads, the line says which
 abbrev pub ended : Which → List ℕ → List ℕ
 ended Only words = words
 ended First words = words ++ codes " in first"
 ended Second words = words ++ codes " in second"
+ended (Number number) words = words ++ (codes " in file " ++ decimal number)
 
 abbrev pub message_of : Refused → List ℕ
 message_of refused = line (ended refused.which (words_of refused.refusal))
@@ -152,6 +161,7 @@ abbrev pub end_of : Which → List ℕ
 end_of Only = codes "\n"
 end_of First = codes " in first\n"
 end_of Second = codes " in second\n"
+end_of (Number number) = codes " in file " ++ (decimal number ++ codes "\n")
 
 abbrev pub refusal_of_automaton : AutoFault → Refusal
 refusal_of_automaton (spelling.Syntax at) = Automaton (AutomatonSyntax at)

@@ -1,7 +1,7 @@
-// What is said of the first step of a goal that is over the limits.
+// What is said of the first step of a goal that is over the limits, of a product, and of the tuples of a set.
 ghost use Rattle.std.specs.Prelude.{◌≡◌};
 ghost use Rattle.dcv_io.specs.Putting.{Puts};
-ghost use Rattle.dcv_cli.specs.Refusal.{excess_word_of, over_words, product_words};
+ghost use Rattle.dcv_cli.specs.Refusal.{excess_word_of, over_words, product_words, tuples_words};
 
 use dcv_io::{Target, put_pieces};
 use itoa::Buffer;
@@ -76,4 +76,12 @@ pub(crate) fn put_product<T: Target>(target: &mut T, excess: Excess, limit: u32)
             b" in product",
         ],
     );
+}
+
+/// Puts the words that say that more tuples of states come before an answer than this.
+pub(crate) fn put_tuples<T: Target>(target: &mut T, limit: u32)
+    ensures { Puts (T.standing target.old) (T.standing target.new) (tuples_words limit) }
+{
+    let mut digits = Buffer::new();
+    put_pieces(target, &[b"budget tuples ", digits.format(limit).as_bytes()]);
 }

@@ -76,6 +76,8 @@ pub enum FormulaFault {
     Declarations,
     /// It declares fewer variables than are to be inputs, or too many others.
     Outputs,
+    /// The name at this offset is one more than the files of a set may have together.
+    Names { at: u32 },
 }
 
 impl FormulaFault {
@@ -89,6 +91,7 @@ impl FormulaFault {
             FormulaFault::Scope(fault) => words_of_scope(fault),
             FormulaFault::Declarations => alone(b"declarations"),
             FormulaFault::Outputs => alone(b"outputs"),
+            FormulaFault::Names { at } => placed(b"names at ", at),
         }
     }
 }

@@ -1,5 +1,5 @@
 // A formula file that was read: its core and the names of its variables, and what is built of these.
-ghost use Rattle.std.specs.Prelude.{◌≡◌, ◌<◌, ◌≤◌, ℕ, List, Some, length, slice_get, IfOk, IfErr, IsTrue};
+ghost use Rattle.std.specs.Prelude.{◌≡◌, ◌<◌, ◌≤◌, ℕ, List, None, Some, length, slice_get, IfOk, IfErr, OnOk, IsTrue};
 ghost use Rattle.std.specs.Bool.{OnTrue};
 ghost use Rattle.std.specs.Option.{option_map};
 ghost use Rattle.dcv_syntax.specs.Plain.{PlainFile};
@@ -16,10 +16,14 @@ ghost use Rattle.dcv_build.specs.Budget.{IsFaultOver, HasVerdictOfSet};
 ghost use Rattle.dcv_cli.specs.Budget.{steps_of_file, NamesFirstOver, IsAtSomeStep};
 ghost use Rattle.dcv_cli.specs.Comparison.{have_same_texts};
 ghost use Rattle.dcv_cli.specs.FormulaFile.{IsRefused};
+ghost use Rattle.dcv_cli.specs.FileSet.{own_names};
 ghost use Rattle.dcv_cli.specs.Held.{OfHeldText};
+ghost use Rattle.dcv_cli.specs.Joined.{IsAutoOver, IsCoreOver, IsRefusedName, IsRefusedOver, IsSlotsRefusal, refusal_of_joint};
 ghost use Rattle.dcv_cli.specs.Outside.{of_files};
 ghost use Rattle.dcv_cli.specs.Performed.{Takes};
-ghost use Rattle.dcv_cli.specs.ReadFile.{IsRead, IsBuilt, IsDecided, CanBePrinted};
+ghost use Rattle.dcv_joint.specs.Faults.{most_names, too_many_at};
+ghost use Rattle.dcv_joint.specs.Names.{HasAll, with_new};
+ghost use Rattle.dcv_cli.specs.ReadFile.{IsRead, IsBuilt, IsDecided, CanBePrinted, WasRead};
 ghost use Rattle.dcv_cli.specs.Refusal.{most_bytes, is_of_text, status_of};
 ghost use Rattle.dcv_cli.specs.Status.{is_determined};
 
@@ -28,15 +32,18 @@ use crate::faults::{FormulaFault, MOST_BYTES};
 use crate::refusal::Refusal;
 use crate::text::take;
 use dcv_build::laws::verdict_of_same_verdict;
-use dcv_build::{BuildFault, Built, BuiltForVerdict, build_counted, build_for_verdict};
+use dcv_build::{BuildFault, Built, BuiltForVerdict, build, build_counted, build_for_verdict};
 use dcv_core::Core;
+use dcv_dfa::Auto;
 use dcv_explore::Limits;
 use dcv_io::Files;
+use dcv_joint::laws::moved_means_restricted;
+use dcv_joint::{Joint, JointFault};
 use dcv_language::laws::canonical_for_same_behaviours;
 use dcv_print::{Verdict, verdict_in};
 use dcv_reader::laws::names_are_short;
 use dcv_reader::read_file;
-use dcv_scope::expand;
+use dcv_scope::{ScopeFault, expand};
 use dcv_scope::laws::{core_means_text, measures_bound_core};
 use dcv_syntax::{File, Name};
 use std::alloc::{AllocError, Global};
@@ -48,6 +55,8 @@ pub struct FormulaFile {
     core: Core,
     // the declared variables, in order
     names: Vec<Name>,
+    // where the goal begins
+    goal: u32,
 }
 
 impl FormulaFile {
@@ -76,9 +85,10 @@ impl FormulaFile {
     {
         let file = read_file(alloc, text)?;
         let core = expand(alloc, &file);
+        let goal = file.goal.span.start;
         let names = names_of(file);
         let core = core?;
-        Ok(FormulaFile { core, names })
+        Ok(FormulaFile { core, names, goal })
     }
 
     /// The declared variables, in order.
@@ -113,6 +123,65 @@ impl FormulaFile {
         }
     }
 
+    /// Adds those of its names that are new to the joint names of a set.
+    pub(crate) fn join(&self, alloc: Global, joint: &mut Joint) -> Result<(), Refusal>
+        ensures joined { OnOk result (joint.new ≡ with_new joint.old (texts_of self.now.names.items)) }
+        ensures fit { OnOk result (too_many_at most_names joint.old self.now.names.items ≡ None) }
+        ensures extra { IfErr result (IsRefusedName joint.old self.now.names.items) }
+    {
+        match joint.add(alloc, &self.names) {
+            Ok(()) => Ok(()),
+            Err(fault) => Err(self.refusal_of_joint(fault)),
+        }
+    }
+
+    /// The automaton, over the joint names of a set, of the behaviours that model the file by what they are on its own names.
+    pub(crate) fn build_over(
+        &self,
+        alloc: Global,
+        joint: &Joint,
+        limits: Limits,
+    ) -> Result<Auto, Refusal>
+        requires { WasRead self.now }
+        ensures built { (text : List ℕ) (file : PlainFile) → IsRead text file self.now → HasAll joint.now (own_names file)
+            → IfOk result (IsAutoOver limits joint.now file) }
+        ensures over { (text : List ℕ) (file : PlainFile) → IsRead text file self.now → IfErr result (IsRefusedOver limits joint.now file) }
+    {
+        moved_means_restricted();
+        canonical_for_same_behaviours();
+        let core = self.core_over(alloc, joint)?;
+        match build(alloc, &core, limits) {
+            Ok(auto) => Ok(looked_at(auto)),
+            Err(fault) => Err(refusal_of(&core, fault)),
+        }
+    }
+
+    // The core over the joint names.
+    fn core_over(&self, alloc: Global, joint: &Joint) -> Result<Core, Refusal>
+        requires { WasRead self.now }
+        ensures core { (text : List ℕ) (file : PlainFile) → IsRead text file self.now → IfOk result (IsCoreOver joint.now file) }
+        ensures slots { (text : List ℕ) (file : PlainFile) → IsRead text file self.now → IfErr result (IsSlotsRefusal joint.now file) }
+    {
+        moved_means_restricted();
+        match joint.core_of(alloc, &self.names, &self.core) {
+            Ok(core) => Ok(core),
+            Err(fault) => Err(self.refusal_of_joint(fault)),
+        }
+    }
+
+    // The refusal that a fault of joint names leads to.
+    fn refusal_of_joint(&self, fault: JointFault) -> Refusal
+        ensures { result ≡ refusal_of_joint fault self.now.goal }
+    {
+        match fault {
+            JointFault::TooMany { at } => Refusal::Formula(FormulaFault::Names { at }),
+            JointFault::Slots => {
+                Refusal::Formula(FormulaFault::Scope(ScopeFault::Slots { at: self.goal }))
+            }
+            JointFault::Memory => Refusal::Memory,
+        }
+    }
+
     /// The verdict of the behaviours that model the file, of an automaton that has it: no more is explored for the last operator, and nothing minimised.
     pub(crate) fn decide(&self, alloc: Global, limits: Limits) -> Result<Verdict, Refusal>
         requires { IsCore self.now.core }
@@ -127,6 +196,14 @@ impl FormulaFile {
         };
         Ok(verdict_of(alloc, &built)?)
     }
+}
+
+// The automaton, of which it is then known what is true of every one.
+fn looked_at(auto: Auto) -> Auto
+    ensures { result ≡ auto.entry }
+{
+    let _ = auto.states();
+    auto
 }
 
 // The declared variables, which are all that is kept of the file: a tree that is dropped at the end of `of_text` would give each of its

@@ -5,7 +5,7 @@ ghost use Rattle.dcv_cli.specs.declared.refusal.Refusal.TheVariants.{Memory, Pro
 ghost use Rattle.dcv_cli.specs.Refusal.{marked, status_of, words_of};
 ghost use Rattle.dcv_cli.specs.Refusal.{refusal_of_automaton, refusal_of_observer, refusal_of_outside, refusal_of_reading, refusal_of_scope};
 
-use crate::budget_line::{Excess, Over, put_product};
+use crate::budget_line::{Excess, Over, put_product, put_tuples};
 use crate::faults::{AutomatonFault, FormulaFault, ObserverFault, TraceFault, put_fault};
 use crate::refused::{Refused, Which};
 use crate::status::Status;
@@ -36,6 +36,8 @@ pub enum Refusal {
     Budget(Over),
     /// The product of two automata has more of this than the limit.
     Product { excess: Excess, limit: u32 },
+    /// More tuples of states of the automata of a set come before an answer than the limit.
+    Tuples { limit: u32 },
     /// The report could not be written.
     Write,
     /// Memory ran out.
@@ -75,7 +77,9 @@ impl Refusal {
             Refusal::Automaton(_) => Status::Automaton,
             Refusal::Observer(_) => Status::Observer,
             Refusal::Trace(_) => Status::Trace,
-            Refusal::Budget(_) | Refusal::Product { .. } => Status::Budget,
+            Refusal::Budget(_) | Refusal::Product { .. } | Refusal::Tuples { .. } => {
+                Status::Budget
+            },
             Refusal::Write => Status::Output,
             Refusal::Memory => Status::Memory,
         }
@@ -94,6 +98,7 @@ impl Refusal {
             Refusal::Trace(fault) => fault.words().put(target),
             Refusal::Budget(over) => over.put(target),
             Refusal::Product { excess, limit } => put_product(target, excess, limit),
+            Refusal::Tuples { limit } => put_tuples(target, limit),
             Refusal::Write => put_fault(target, b"write"),
             Refusal::Memory => put_fault(target, b"memory"),
         }

@@ -1,5 +1,6 @@
 // A refusal, as it is reported: of the one file that a request reads, or of which one.
 ghost use Rattle.std.specs.Prelude.{◌≡◌};
+ghost use Rattle.dcv_io.specs.Putting.{Puts};
 ghost use Rattle.dcv_cli.specs.Refusal.{end_of, only, refusal_of_replay};
 ghost use Rattle.dcv_cli.specs.declared.refusal.Refusal.TheVariants.{Memory};
 
@@ -7,8 +8,9 @@ use crate::faults::TraceFault;
 use crate::refusal::Refusal;
 use crate::reply::Reply;
 use crate::status::Status;
-use dcv_io::Target;
+use dcv_io::{Target, put_pieces};
 use dcv_replay::ReplayFault;
+use itoa::Buffer;
 use std::alloc::AllocError;
 
 /// Which of the formula files that a request reads.
@@ -20,17 +22,26 @@ pub enum Which {
     First,
     /// The second of two.
     Second,
+    /// The one of a set with this number, counted from 1.
+    Number(u64),
 }
 
 impl Which {
-    // The end of a line that says so.
-    fn end(self) -> &'static [u8]
-        ensures { result.now ≡ end_of self }
+    // Puts the end of a line that says so.
+    fn put_end<T: Target>(self, target: &mut T)
+        ensures { Puts (T.standing target.old) (T.standing target.new) (end_of self) }
     {
         match self {
-            Which::Only => b"\n",
-            Which::First => b" in first\n",
-            Which::Second => b" in second\n",
+            Which::Only => target.put(b"\n"),
+            Which::First => target.put(b" in first\n"),
+            Which::Second => target.put(b" in second\n"),
+            Which::Number(number) => {
+                let mut digits = Buffer::new();
+                put_pieces(
+                    target,
+                    &[b" in file ", digits.format(number).as_bytes(), b"\n"],
+                );
+            }
         }
     }
 }
@@ -54,7 +65,7 @@ impl Reply for Refused {
 
     fn put<T: Target>(&self, target: &mut T) {
         self.refusal.put(target);
-        target.put(self.which.end());
+        self.which.put_end(target);
     }
 }
 
