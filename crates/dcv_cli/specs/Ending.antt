@@ -9,15 +9,16 @@
 --     HasInputCause ..         what the counts of the files say
 --     Tells, TellsCause        what is on the messages
 use Rattle.std.specs.Bool.{OnTrue}
-use Rattle.std.specs.Prelude.{◌≡◌, ◌≤◌, ◌+◌, ◌⊎◌, ℕ, Bool, List, [], ◌∷◌, Option, IsTrue, IsFalse}
+use Rattle.std.specs.Prelude.{◌≡◌, ◌≤◌, ◌+◌, ◌*◌, ◌⊎◌, ℕ, Bool, List, [], ◌∷◌, length, Option, IsTrue, IsFalse}
 use Rattle.dcv_cli.specs.Common.{Asks, AsksPrefix, has_risen, Rises}
-use Rattle.dcv_cli.specs.Common.{Appends, AppendsStrictPrefix, Request, Report, Certify, Convert, Implies, Stuck, Synth, Replay, Sweep}
+use Rattle.dcv_cli.specs.Common.{Appends, AppendsStrictPrefix, Request, Report, Certify, Convert, Implies, Set, Stuck, Synth, Replay, Sweep}
 use Rattle.dcv_cli.specs.Common.{files_of, Open, Read, Write, Status, Input, Output, Memory}
 use Rattle.dcv_io.specs.Disk.{WhereTold, ReadsAtMost}
 use Rattle.dcv_io.specs.Written.{AppendsPrefix}
 use Rattle.dcv_replay.specs.Coming.{most_reads}
 use Rattle.dcv_cli.specs.declared.refusal.Refusal.TheVariants.{Memory as OutOfMemory}
 use Rattle.dcv_cli.specs.Comparison.{LeavesComparison}
+use Rattle.dcv_cli.specs.FileSet.{LeavesSet}
 use Rattle.dcv_cli.specs.Outcome.{Outcome}
 use Rattle.dcv_cli.specs.Outside.{Outside}
 use Rattle.dcv_cli.specs.Refusal.{message_of, only, most_bytes, most_automaton_bytes, most_observer_bytes}
@@ -61,6 +62,7 @@ Leaves (Synth name inputs limits) held before after bytes = LeavesNothing most_b
 Leaves (Implies first second limits) held before after bytes = LeavesComparison first second held before after bytes
 Leaves (Replay subset observer trace) held before after bytes = LeavesAnswers subset observer trace held before after bytes
 Leaves (Sweep seed count) held before after bytes = bytes ≡ []
+Leaves (Set question names limits tuples) held before after bytes = LeavesSet names held before after bytes
 
 -- that is what was added to the output, for the request of the words
 pub record LeavesOver (words : List (List ℕ)) (before after : Outside) : Type 0 where
@@ -83,6 +85,7 @@ calls_of (Convert name to) = most_automaton_bytes + 2
 calls_of (Implies first second limits) = most_bytes + 2 + (most_bytes + 2)
 calls_of (Replay subset observer trace) = most_observer_bytes + 2 + (1 + most_reads)
 calls_of (Sweep seed count) = 0
+calls_of (Set question names limits tuples) = length names * (most_bytes + 2)
 calls_of _ = most_bytes + 2
 
 abbrev pub CallsFew : List (List ℕ) → ℕ → ℕ → Type 0

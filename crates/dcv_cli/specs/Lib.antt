@@ -20,6 +20,7 @@ pub mod ObserverFile
 pub mod Replayed
 pub mod Synthesis
 pub mod Swept
+pub mod FileSet
 pub mod Right
 pub mod Headline
 pub mod Ending
@@ -31,3 +32,5 @@ pub mod ReadFile
 pub mod Synthesised
 pub mod FaultWords
 pub mod Replaying
+pub mod Joined
+pub mod SetAnswers

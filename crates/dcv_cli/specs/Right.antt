@@ -3,12 +3,13 @@
 --     IsRight words held outcome        right for the words
 use Rattle.std.specs.Prelude.{◌≡◌, ℕ, List, [], Option}
 use Rattle.dcv_cli.specs.Common.{Disk, Usage, Request, Report, Certify, Convert, Implies, Stuck, Synth, Replay}
-use Rattle.dcv_cli.specs.Common.{Sweep, IsTaken, Only, First, Second}
+use Rattle.dcv_cli.specs.Common.{Set, Sweep, IsTaken, Only, First, Second}
 use Rattle.dcv_cli.specs.AutomatonFile.{OnAutomaton}
 use Rattle.dcv_cli.specs.Budget.{IsBudgeted}
 use Rattle.dcv_cli.specs.Certificate.{IsCertificate}
 use Rattle.dcv_cli.specs.Comparison.{IsCompared}
 use Rattle.dcv_cli.specs.Conversion.{IsConverted}
+use Rattle.dcv_cli.specs.FileSet.{IsOfSet, OnFiles}
 use Rattle.dcv_cli.specs.FormulaFile.{OnText}
 use Rattle.dcv_cli.specs.Held.{Texts, OnHeld, ForHeld}
 use Rattle.dcv_cli.specs.Outcome.{Outcome}
@@ -31,6 +32,7 @@ Fulfils (Synth name inputs limits) held outcome = OnHeld (held 0) name (λ text.
 Fulfils (Replay subset observer trace) held outcome =
     OnHeld (held 0) observer (λ text. OnObserver subset text (λ one. OnHeld (held 1) trace (IsReplay one))) outcome
 Fulfils (Sweep seed count) held outcome = IsSwept seed count outcome
+Fulfils (Set question names limits tuples) held outcome = OnFiles held 0 [] names (IsOfSet question limits tuples) outcome
 
 -- Words that are no command's are refused, in whatever words. Else what fulfils their request is right.
 pub data IsRight (words : List (List ℕ)) (held : Texts) (outcome : Outcome) : Type 0 where

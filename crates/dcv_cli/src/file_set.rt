@@ -1,16 +1,20 @@
 // The commands over a set of formula files: whether their requirements go together, or whether the first follows from the others.
-ghost use Rattle.std.specs.Prelude.{◌≡◌, ◌<◌, ◌+◌, ◌^◌, ℕ, List, [], length, map, IfOk, IfErr, IsTrue};
-ghost use Rattle.std.specs.Bool.{OnTrue};
-ghost use Rattle.dcv_syntax.specs.Plain.{PlainFile};
+ghost use Rattle.std.specs.Prelude.{◌≡◌, ◌<◌, ◌+◌, ◌^◌, ℕ, suc, List, length, map, IfOk, IfErr};
+ghost use Rattle.dcv_automaton_text.specs.Spelled.{name_words, spaced};
 ghost use Rattle.dcv_command.specs.Request.{Set as SetRequest};
-ghost use Rattle.dcv_cli.specs.FileSet.{IsAnswered, IsOfSet};
-ghost use Rattle.dcv_cli.specs.Joined.{AreRead, IsJoint, AreAutosOver, IsJoinedSet, IsSaidOf, StopsTaking, TakesAll, WereRead};
-ghost use Rattle.dcv_cli.specs.Outcome.{IsExplained};
+ghost use Rattle.dcv_dfa.specs.Raw.{raw_accepts};
+ghost use Rattle.dcv_io.specs.Putting.{Puts};
+ghost use Rattle.dcv_print.specs.Verdict.{letters_of};
+ghost use Rattle.dcv_syntax.specs.Plain.{PlainFile};
+ghost use Rattle.dcv_together.specs.Answered.{answer_of};
+ghost use Rattle.dcv_together.specs.Answers.{Least, TooMany};
+ghost use Rattle.dcv_cli.specs.FileSet.{IsDecidedFollowing, IsDecidedTogether, IsOfSet, joint_of as joint_of_files, names_line};
+ghost use Rattle.dcv_cli.specs.Joined.{AreAutosOver, AreRead, IsExtraName, IsJoinedSet, IsJoint, IsOverAt, IsUnjoined, IsWhole, StopsTaking, TakesAll, WereRead};
 ghost use Rattle.dcv_cli.specs.Outside.{of_files, outside, stream};
 ghost use Rattle.dcv_cli.specs.Performed.{Answers, PerformsRequest};
-ghost use Rattle.dcv_cli.specs.Refusal.{is_of_text, status_of};
-ghost use Rattle.dcv_cli.specs.Status.{has_cause};
-ghost use Rattle.dcv_cli.specs.declared.refused.Which.TheVariants.{Only};
+ghost use Rattle.dcv_cli.specs.SetAnswers.{IsRefusedIn, outcome_of_decided, outcome_of_following};
+ghost use Rattle.dcv_cli.specs.declared.refusal.Refusal.TheVariants.{Tuples};
+ghost use Rattle.dcv_cli.specs.declared.refused.Which.TheVariants.{Number};
 
 use crate::formula_file::FormulaFile;
 use crate::refusal::Refusal;
@@ -20,13 +24,13 @@ use crate::status::Status;
 use dcv_command::SetQuestion;
 use dcv_dfa::Auto;
 use dcv_explore::Limits;
-use dcv_io::{Files, Sink, Target};
+use dcv_io::{Files, Sink, Target, put_pieces};
 use dcv_joint::Joint;
 use dcv_print::{put_stuck, put_word};
 use dcv_syntax::Text;
 use dcv_together::{Answer, follows, possible, stuck};
 use dcv_word::Word;
-use std::alloc::{AllocError, Global};
+use std::alloc::Global;
 
 /// What is asked of a set of files, and within which limits.
 #[derive(Clone, Copy)]
@@ -78,7 +82,7 @@ fn take_files<F: Files>(
     for name in names {
         match FormulaFile::take(alloc, files, name) {
             Ok(formula) => taken.push(formula)?,
-            Err(refusal) => return Err(refusal.in_file(Which::Number(taken.len() as u64 + 1))),
+            Err(refusal) => return Err(refusal.in_file(number(taken.len()))),
         }
     }
     Ok(taken)
@@ -122,9 +126,8 @@ fn joint_of(alloc: Global, formulas: &[FormulaFile]) -> Result<Joint, Refused>
 {
     let mut joint = Joint::new(alloc);
     for (place, formula) in formulas.iter().enumerate() {
-        match joint.add(alloc, formula.names()) {
-            Ok(()) => {}
-            Err(fault) => return Err(refusal_of_joint(fault).in_file(number(place))),
+        if let Err(refusal) = formula.join(alloc, &mut joint) {
+            return Err(refusal.in_file(number(place)));
         }
     }
     Ok(joint)
@@ -177,6 +180,9 @@ struct Following<'a> {
 
 // Whether the requirements go together.
 fn answer_together<O: Sink>(alloc: Global, set: &JoinedSet, tuples: u32, out: &mut O) -> Ended
+    requires whole { IsWhole set.now }
+    requires tuples { tuples + 1 < 2 ^ 32 }
+    ensures { Answers (IsDecidedTogether tuples set.now.joint (map raw_accepts set.now.autos.items)) result (stream O.Sink out.old) (stream O.Sink out.new) }
 {
     let decided = decide_together(alloc, set, tuples)?;
     reply_with(&decided, Status::of_least(&decided.stuck), out)
@@ -187,6 +193,10 @@ fn decide_together<'a>(
     set: &'a JoinedSet,
     tuples: u32,
 ) -> Result<Decided<'a>, Refusal>
+    requires whole { IsWhole set.now }
+    requires tuples { tuples + 1 < 2 ^ 32 }
+    ensures decided { IfOk result (λ decided. IsDecidedTogether tuples set.now.joint (map raw_accepts set.now.autos.items) (outcome_of_decided decided)) }
+    ensures over { IfErr result (IsRefusedIn (IsDecidedTogether tuples set.now.joint (map raw_accepts set.now.autos.items))) }
 {
     let width = set.joint.names().len() as u8;
     let example = least_within(possible(alloc, &set.autos, width, tuples)?, tuples)?;
@@ -200,6 +210,9 @@ fn decide_together<'a>(
 
 // Whether the first requirement follows from the others.
 fn answer_follows<O: Sink>(alloc: Global, set: &JoinedSet, tuples: u32, out: &mut O) -> Ended
+    requires whole { IsWhole set.now }
+    requires tuples { tuples + 1 < 2 ^ 32 }
+    ensures { Answers (IsDecidedFollowing tuples set.now.joint (map raw_accepts set.now.autos.items)) result (stream O.Sink out.old) (stream O.Sink out.new) }
 {
     let following = decide_following(alloc, set, tuples)?;
     reply_with(&following, Status::of_least(&following.least), out)
@@ -210,6 +223,10 @@ fn decide_following<'a>(
     set: &'a JoinedSet,
     tuples: u32,
 ) -> Result<Following<'a>, Refusal>
+    requires whole { IsWhole set.now }
+    requires tuples { tuples + 1 < 2 ^ 32 }
+    ensures decided { IfOk result (λ following. IsDecidedFollowing tuples set.now.joint (map raw_accepts set.now.autos.items) (outcome_of_following following)) }
+    ensures over { IfErr result (IsRefusedIn (IsDecidedFollowing tuples set.now.joint (map raw_accepts set.now.autos.items))) }
 {
     let width = set.joint.names().len() as u8;
     let least = least_within(follows(alloc, &set.autos, width, tuples)?, tuples)?;
@@ -221,6 +238,8 @@ fn decide_following<'a>(
 
 // The least word of an answer, unless too many tuples come before it.
 fn least_within(answer: Answer, tuples: u32) -> Result<Option<Word>, Refusal>
+    ensures least { IfOk result (λ least. answer_of answer.entry ≡ Least (letters_of least)) }
+    ensures many { IfErr result (λ refusal. (answer_of answer.entry ≡ TooMany) × (refusal ≡ Tuples tuples)) }
 {
     match answer {
         Answer::Least(word) => Ok(word),
@@ -229,6 +248,10 @@ fn least_within(answer: Answer, tuples: u32) -> Result<Option<Word>, Refusal>
 }
 
 impl Reply for Decided<'_> {
+    ghost use Rattle.dcv_cli.specs.SetAnswers.{text_of_decided};
+
+    ghost text = { text_of_decided };
+
     fn put<T: Target>(&self, target: &mut T) {
         put_variables(target, self.joint.names());
         if self.example.is_none() {
@@ -240,6 +263,10 @@ impl Reply for Decided<'_> {
 }
 
 impl Reply for Following<'_> {
+    ghost use Rattle.dcv_cli.specs.SetAnswers.{text_of_following};
+
+    ghost text = { text_of_following };
+
     fn put<T: Target>(&self, target: &mut T) {
         put_variables(target, self.joint.names());
         if self.least.is_none() {

@@ -22,6 +22,7 @@ mod certify;
 mod command;
 mod convert;
 mod faults;
+mod file_set;
 mod formula_file;
 mod implies;
 pub mod laws;

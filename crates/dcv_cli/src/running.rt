@@ -11,6 +11,7 @@ ghost use Rattle.dcv_cli.specs.Performed.{PerformsRequest};
 use crate::certify::Certifier;
 use crate::command::{over_automaton, over_formula};
 use crate::convert::Converter;
+use crate::file_set::{Question, decide_set};
 use crate::implies::compare_files;
 use crate::refusal::Refusal;
 use crate::refused::{Ended, Refused, Which};
@@ -40,6 +41,9 @@ use std::alloc::Global;
 /// its inputs, the first N, are; or else how the inputs are picked by which no controller does, and within how many instants.
 /// `replay-lustre OBSERVER TRACE` and `replay-c OBSERVER TRACE` write an observer's answer at each instant of a trace.
 /// `sweep SEED COUNT` writes how many of the formulas that are drawn from the seed are valid, and what else is counted over them.
+/// `together FILE ..` writes the least behaviour that satisfies the formulas of all files, over the names of all of them, and `never stuck`, or the
+/// least behaviour that keeps to all of them and cannot be continued. `follows FILE ..` says whether each behaviour that satisfies all files after the
+/// first satisfies the first, or writes a shortest that does not.
 #[tactic(auto, using(crate::proofs::ThreeEnds::nothing_told))]
 pub fn run<F: Files, O: Sink, E: Sink>(
     alloc: Global,
@@ -124,5 +128,18 @@ pub(crate) fn perform<F: Files, O: Sink>(
             trace,
         } => replay_file(alloc, subset, observer, trace, files, out),
         Request::Sweep { seed, count } => sweep_formulas(alloc, seed, count, out),
+        Request::Set {
+            asked,
+            files: names,
+            limits,
+            tuples,
+        } => {
+            let question = Question {
+                asked,
+                limits,
+                tuples,
+            };
+            decide_set(alloc, question, &names, files, out)
+        }
     }
 }
