@@ -1,0 +1,27 @@
+//! Laws of joint names. Each function here does nothing: its contract is the law.
+ghost use Rattle.dcv_joint.specs.Laws.{MovedMeansRestricted, FileMeansOver, StepsAreInUse, NamesFit, JointNamesDiffer, JointHasEach, JointOfOne};
+ghost use Rattle.dcv_joint.specs.Laws.{RestrictedIsBehaviour, RestrictedToAll, EachIsRestricted};
+
+/// A core over the joint names means on a behaviour what it meant on the part over its own names. So does the core of a file, whose steps name
+/// only slots in use.
+pub fn moved_means_restricted()
+    ensures tree { MovedMeansRestricted }
+    ensures file { FileMeansOver }
+    ensures in_use { StepsAreInUse }
+{}
+
+/// The joint list has the names of each list once, and that of one list is the list. Names fit exactly where the list is not too long.
+pub fn names_are_joint()
+    ensures fit { NamesFit }
+    ensures differ { JointNamesDiffer }
+    ensures each { JointHasEach }
+    ensures one { JointOfOne }
+{}
+
+/// A behaviour over the joint names is a behaviour on the own ones, on all of its names it is itself, and each behaviour over the own names is so
+/// made of one over the joint names.
+pub fn words_are_restricted()
+    ensures behaviour { RestrictedIsBehaviour }
+    ensures all { RestrictedToAll }
+    ensures each { EachIsRestricted }
+{}
