@@ -1,6 +1,6 @@
 -- Words that are always taken: a command's name, its operands, and then its options in any order, each with its value.
 --     Values                     a value for each argument
---     word_of value given        what is given for an argument, as a word: a number in decimal
+--     words_of value given       what is given for an argument, as words, one for each name: a number in decimal
 --     operand_words values arguments
 --                                the words of the operands among the arguments, in order
 --     option_words values given  the words of these options, each after its name
@@ -20,34 +20,40 @@ use Rattle.clap.specs.Words.{Text, takes}
 use Rattle.dcv_explore.specs.declared.explorer.Limits.{Limits}
 use Rattle.dcv_command.specs.Program.{program}
 use Rattle.dcv_command.specs.Request.{Request, IsTaken, request_of}
-use Rattle.dcv_command.specs.Table.{Argument, Asks, Form, Operand, Required, WithDefault, Of, Value, FileName, Number, limits_of, value_of}
+use Rattle.dcv_command.specs.Table.{Argument, Asks, Form, Operand, Required, WithDefault, Of, Value, FileName, FileNames, Number, limits_of, value_of}
 
 abbrev pub Values : Type 0
 Values = (argument : Argument) → Of argument.value
 
-abbrev pub word_of : (value : Value) → Of value → Text
-word_of FileName name = name
-word_of (Number least most) number = decimal number
+abbrev pub words_of : (value : Value) → Of value → List Text
+words_of FileName name = name ∷ []
+words_of FileNames names = names
+words_of (Number least most) number = decimal number ∷ []
 
-abbrev pub if_operand : Form → Text → List Text → List Text
-if_operand Operand word words = word ∷ words
-if_operand Required word words = words
-if_operand (WithDefault text) word words = words
+abbrev pub if_operand : Form → List Text → List Text → List Text
+if_operand Operand own words = own ++ words
+if_operand Required own words = words
+if_operand (WithDefault text) own words = words
 
 abbrev pub operand_words : Values → List Argument → List Text
 operand_words values [] = []
-operand_words values (one ∷ rest) = if_operand one.form (word_of one.value (values one)) (operand_words values rest)
+operand_words values (one ∷ rest) = if_operand one.form (words_of one.value (values one)) (operand_words values rest)
 
 abbrev pub option_words : Values → List Argument → List Text
 option_words values [] = []
-option_words values (one ∷ rest) = (codes "--" ++ one.id) ∷ word_of one.value (values one) ∷ option_words values rest
+option_words values (one ∷ rest) = (codes "--" ++ one.id) ∷ words_of one.value (values one) ++ option_words values rest
 
 abbrev pub IsFileName : Text → Type 0
 IsFileName [] = ⊥
 IsFileName (first ∷ rest) = first ≢ byte "-"
 
+abbrev pub AreFileNames : List Text → Type 0
+AreFileNames [] = ⊥
+AreFileNames (name ∷ names) = IsFileName name × AllByRecursion IsFileName names
+
 abbrev pub CanBeGiven : (value : Value) → Of value → Type 0
 CanBeGiven FileName name = IsFileName name
+CanBeGiven FileNames names = AreFileNames names
 CanBeGiven (Number least most) number = (least ≤ number) × (number ≤ most)
 
 abbrev pub IsOption : Form → Type 0

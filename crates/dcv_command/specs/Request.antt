@@ -3,23 +3,24 @@
 --     IsInRange request       its numbers, if it has some, are within the ranges of the options and operands
 --     number_in least most id rows
 --                             the value of an option or an operand, a number from the least to the most
+--     names_in id rows        the values of a list of operands, of which there is one at least
 --     asked_in arguments asks rows
 --                             what is asked for, by the values of the arguments
 --     asked_of command rows   the same of a command
 --     request_in name rows    what the command of this name asks for
 --     request_of words        what the words ask for
 --     IsTaken words           `clap` finds no fault in the words
-use Rattle.std.specs.Prelude.{◌≡◌, ℕ, ◌≤◌, List, [], ◌∷◌, Option, None, Some, if◌then◌else◌, find, option_and_then}
+use Rattle.std.specs.Prelude.{◌≡◌, ℕ, ◌≤◌, ◌<◌, length, List, [], ◌∷◌, Option, None, Some, if◌then◌else◌, find, option_and_then}
 use Rattle.std.specs.Str.{bytes_eq}
 use Rattle.std.specs.Str.Parse.{digits_value, without_leading_plus}
-use Rattle.clap.specs.Words.{Row, Text, first_of, one_of, subcommand_of, fault_of}
+use Rattle.clap.specs.Words.{Row, Text, all_of, first_of, one_of, subcommand_of, fault_of}
 use Rattle.clap.specs.ValueTests.{is_unsigned_in}
 use Rattle.dcv_explore.specs.declared.explorer.Limits.{Limits}
 use Rattle.dcv_command.specs.Program.{program}
-use Rattle.dcv_command.specs.Table.{Argument, Asks, Command, Of, Value, FileName, Number, commands}
+use Rattle.dcv_command.specs.Table.{Argument, Asks, Command, Of, Value, FileName, FileNames, Number, commands}
 use Rattle.dcv_language.specs.Limits.{most_states, most_nodes}
-use Rattle.dcv_command.specs.Table.{most_inputs, most_seed, most_count}
-pub use Rattle.dcv_command.specs.Table.{Request, Report, Certify, Convert, Implies, Stuck, Synth, Replay, Sweep}
+use Rattle.dcv_command.specs.Table.{most_inputs, most_seed, most_count, most_tuples}
+pub use Rattle.dcv_command.specs.Table.{Request, Report, Certify, Convert, Implies, Stuck, Synth, Replay, Sweep, Together, Follows}
 
 abbrev pub files_of : Request → List (List ℕ)
 files_of (Report kind name limits) = name ∷ []
@@ -30,6 +31,8 @@ files_of (Stuck name limits) = name ∷ []
 files_of (Synth name inputs limits) = name ∷ []
 files_of (Replay subset observer trace) = observer ∷ trace ∷ []
 files_of (Sweep seed count) = []
+files_of (Together names limits tuples) = names
+files_of (Follows first others limits tuples) = first ∷ others
 
 pub record AreInRange (limits : Limits) : Type 0 where
   pub some_states : 1 ≤ limits.states
@@ -46,6 +49,13 @@ pub record CanBeDrawn (seed count : ℕ) : Type 0 where
   pub some : 1 ≤ count
   pub few : count ≤ most_count
 
+-- so many names, tuples and limits
+pub record AreJoinable (names : ℕ) (limits : Limits) (tuples : ℕ) : Type 0 where
+  pub some_names : 0 < names
+  pub some_tuples : 1 ≤ tuples
+  pub few_tuples : tuples ≤ most_tuples
+  pub within : AreInRange limits
+
 abbrev pub IsInRange : Request → Type 0
 IsInRange (Report kind name limits) = AreInRange limits
 IsInRange (Certify name) = Unit {0}
@@ -55,6 +65,8 @@ IsInRange (Stuck name limits) = AreInRange limits
 IsInRange (Synth name inputs limits) = AreInputsInRange inputs limits
 IsInRange (Replay subset observer trace) = Unit {0}
 IsInRange (Sweep seed count) = CanBeDrawn seed count
+IsInRange (Together names limits tuples) = AreJoinable (length names) limits tuples
+IsInRange (Follows first others limits tuples) = AreJoinable (length others) limits tuples
 
 -- ---- the values of a command's arguments
 
@@ -64,8 +76,16 @@ number_of least most text = if is_unsigned_in least most text then Some (digits_
 abbrev pub number_in : ℕ → ℕ → Text → List Row → Option ℕ
 number_in least most id rows = option_and_then (number_of least most) (one_of id rows)
 
+abbrev pub some_names : List Text → Option (List Text)
+some_names [] = None
+some_names (name ∷ names) = Some (name ∷ names)
+
+abbrev pub names_in : Text → List Row → Option (List Text)
+names_in id rows = option_and_then some_names (all_of id rows)
+
 abbrev pub value_in : (value : Value) → Text → List Row → Option (Of value)
 value_in FileName id rows = first_of id rows
+value_in FileNames id rows = names_in id rows
 value_in (Number least most) id rows = number_in least most id rows
 
 -- ---- what they ask for

@@ -1,8 +1,9 @@
 -- The commands of the program in one table: what each is called, its arguments, and what their values ask for.
 --     Request             a thing that the program does
 --     most_version        the greatest numbers that may be given, beside those of states and nodes: the version of a text, inputs,
---                         the seed and the count of formulas that are drawn
---     Value               what is given for an argument: the name of a file, which is any text, or a whole number from the least to the most
+--                         the seed and the count of formulas that are drawn, and tuples of states
+--     Value               what is given for an argument: the name of a file, which is any text, the names of one or more, or a whole number
+--                         from the least to the most
 --     Form                how it is given: by its place, by an option that has to be there, or by one that has a default
 --     Argument            an argument, whose name an option bears
 --     Of value            what is given, as it is asked for
@@ -39,6 +40,10 @@ pub data Request : Type 0 where
   Replay : (subset : Subset) → (observer trace : List ℕ) → Request
   -- a summary over so many formulas that are drawn from the seed
   Sweep : (seed count : ℕ) → Request
+  -- whether the formulas in the files can be satisfied together, and whether what has kept to all of them so far can always go on
+  Together : (names : List (List ℕ)) → (limits : Limits) → (tuples : ℕ) → Request
+  -- whether the formulas in the others together imply that in the first file
+  Follows : (first : List ℕ) → (others : List (List ℕ)) → (limits : Limits) → (tuples : ℕ) → Request
 
 abbrev pub most_version : ℕ
 most_version = 2
@@ -52,10 +57,14 @@ most_seed = 2147483647
 abbrev pub most_count : ℕ
 most_count = 1000
 
+abbrev pub most_tuples : ℕ
+most_tuples = 100000000
+
 -- ---- arguments
 
 pub data Value : Type 0 where
   FileName : Value
+  FileNames : Value
   Number : (least most : ℕ) → Value
 
 pub data Form : Type 0 where
@@ -70,10 +79,12 @@ pub record Argument : Type 0 where
 
 abbrev pub Of : Value → Type 0
 Of FileName = Text
+Of FileNames = List Text
 Of (Number least most) = ℕ
 
 abbrev pub value_of : (value : Value) → Text → Of value
 value_of FileName text = text
+value_of FileNames text = text ∷ []
 value_of (Number least most) text = digits_value 10 (without_leading_plus text)
 
 -- ---- commands
@@ -96,11 +107,17 @@ version_numbered number = if number == 1 then One else Two
 abbrev pub file : Text → Argument
 file id = record { id = id; form = Operand; value = FileName }
 
+abbrev pub files : Text → Argument
+files id = record { id = id; form = Operand; value = FileNames }
+
 abbrev pub states : Argument
 states = record { id = codes "states"; form = WithDefault (codes "30000"); value = Number 1 most_states }
 
 abbrev pub nodes : Argument
 nodes = record { id = codes "nodes"; form = WithDefault (codes "1000000"); value = Number 1 most_nodes }
+
+abbrev pub tuples : Argument
+tuples = record { id = codes "tuples"; form = WithDefault (codes "5000000"); value = Number 1 most_tuples }
 
 abbrev pub report_name : Kind → Text
 report_name Check = codes "check"
@@ -163,7 +180,21 @@ sweep = record {
   asks = Sweep;
 }
 
+abbrev pub together : Command
+together = record {
+  name = codes "together";
+  arguments = files (codes "file") ∷ states ∷ nodes ∷ tuples ∷ [];
+  asks = λ names states nodes tuples. Together names (limits_of states nodes) tuples;
+}
+
+abbrev pub follows : Command
+follows = record {
+  name = codes "follows";
+  arguments = file (codes "first") ∷ files (codes "others") ∷ states ∷ nodes ∷ tuples ∷ [];
+  asks = λ first others states nodes tuples. Follows first others (limits_of states nodes) tuples;
+}
+
 abbrev pub commands : List Command
 commands =
     report Check ∷ report Automaton ∷ report Lustre ∷ report C ∷ report Tables ∷ report All ∷ certify ∷ convert ∷ implies ∷ stuck ∷ synth
-    ∷ replay LustreText ∷ replay CText ∷ sweep ∷ []
+    ∷ replay LustreText ∷ replay CText ∷ sweep ∷ together ∷ follows ∷ []

@@ -2,11 +2,11 @@
 ghost use Rattle.std.specs.Prelude.{◌≡◌, [], false, codes, fold, map, IfOk};
 ghost use Rattle.clap.specs.Words.{rule_of as rule_seen, app_of, new_app, with_rule, with_subcommand};
 ghost use Rattle.clap.specs.declared.builder.Command.TheViews.{out-Command as fields_of};
-ghost use Rattle.dcv_command.specs.Program.{bare_app, given_as, program as the_program, rule_of, with_parser};
+ghost use Rattle.dcv_command.specs.Program.{bare_app, given_as, program as the_program, rule_of, taken_as};
 ghost use Rattle.dcv_command.specs.Seen.{argument_seen, form_seen, shape_seen, value_seen};
 
 use clap::builder::ValueParser;
-use clap::{Arg, Command};
+use clap::{Arg, ArgAction, Command};
 use dcv_language::{MOST_NODES, MOST_STATES, MOST_VARIABLES};
 use std::alloc::{AllocError, Global};
 
@@ -15,6 +15,7 @@ const ABOUT: &str =
 Shows a shortest behaviour that breaks it, the minimal automaton of the behaviours that satisfy it, or an observer of these. \
 Reports whether one requirement implies another, whether every behaviour that satisfied a requirement so far can go on, and whether \
 the words of an automaton's text prove that it is minimal. \
+Reports whether requirements can be satisfied together and can always go on, and whether one follows from others. \
 Converts such a text to another version. \
 Synthesises a controller that satisfies a requirement for all inputs, or shows how the inputs beat every controller. \
 Replays traces through observers. Counts verdicts of drawn formulas.";
@@ -32,19 +33,23 @@ const EXAMPLE_AND_STATUS: &str =
   dcvalid replay-c door.c door.trace
   dcvalid tables door.dc > door_tables.c
   dcvalid sweep 7 200
+  dcvalid together door.dc other.dc --tuples 1000
+  dcvalid follows other.dc door.dc
 The file door.trace has a line for each instant, with a digit for each variable: 1 where the door is closed.
 The report is on standard output, and the line of a fault on standard error. /dev/stdin is a file too.
 
 Status:
   0  each behaviour satisfies the formula; the automaton is shown to be minimal; A implies B; there is a controller;
      the automaton's text was converted; the trace was read to its end; the drawn formulas are counted;
-     every behaviour that satisfied the formula so far can go on
+     every behaviour that satisfied the formula, or all formulas, so far can go on; the first formula follows from the others
   1  some behaviour does not; the automaton is not shown to be minimal; A does not imply B; there is no controller;
-     some behaviour that satisfied the formula so far cannot go on
+     some behaviour that satisfied the formula, or all formulas, so far cannot go on, or none satisfies all formulas;
+     the first formula does not follow from the others
   2  the words are no command, or ask for help
   3  a file holds no formula, for the fault that is named, at its offset in bytes; A and B declare different variables;
-     there are fewer variables than inputs, or more than 8 outputs
-  4  a step of a formula, or the product of A and B, has more states or nodes than the limit
+     there are fewer variables than inputs, or more than 8 outputs; the files declare too many variables together
+  4  a step of a formula, or the product of A and B, has more states or nodes than the limit;
+     there are more tuples of states than the limit
   5  a file could not be opened or read
   6  the report could not be written
   7  memory ran out
@@ -63,6 +68,9 @@ pub(crate) const MOST_SEED: u32 = 2_147_483_647;
 
 /// The most formulas that may be drawn.
 pub(crate) const MOST_COUNT: u32 = 1_000;
+
+/// The most tuples of states that may be allowed.
+pub(crate) const MOST_TUPLES: u32 = 100_000_000;
 
 /// A command: its name, what its help says of it, and its arguments in order.
 pub(crate) struct Entry<'a> {
@@ -96,10 +104,11 @@ pub(crate) enum Form<'a> {
     WithDefault(&'a str),
 }
 
-/// What is given for an argument: the name of a file, or a number from the least to the most.
+/// What is given for an argument: the name of a file, the names of one or more, or a number from the least to the most.
 #[derive(Clone, Copy)]
 pub(crate) enum Value {
     FileName,
+    FileNames,
     Number(u32, u32),
 }
 
@@ -133,6 +142,9 @@ const STATES: Argument<'static> =
 const NODES: Argument<'static> =
     argument! { "nodes", Form::WithDefault("1000000"), Value::Number(1, MOST_NODES), "N", "The most diagram nodes that a step may have, from 1 to 1000000" };
 
+const TUPLES: Argument<'static> =
+    argument! { "tuples", Form::WithDefault("5000000"), Value::Number(1, MOST_TUPLES), "N", "The most tuples of states, one of each file, from 1 to 100000000" };
+
 // Of a command over a formula file.
 const OVER_A_FORMULA: [Argument<'static>; 3] = [FORMULA_FILE, STATES, NODES];
 
@@ -143,7 +155,7 @@ const OVER_A_TRACE: [Argument<'static>; 2] = [
         "The trace: a line for each instant, with a digit 0 or 1 for each variable, or - where there is none" },
 ];
 
-static COMMANDS: [Entry<'static>; 14] = entries! {
+static COMMANDS: [Entry<'static>; 16] = entries! {
     "check" "Writes the verdict, with a shortest counterexample and a shortest example" OVER_A_FORMULA;
     "automaton" "Writes the minimal automaton, with words that show that it is minimal" OVER_A_FORMULA;
     "lustre" "Writes an observer in a flat subset of Lustre, which reports at each instant whether the behaviour so far satisfies the formula" OVER_A_FORMULA;
@@ -171,6 +183,14 @@ inputs that beat every controller"
 states and 1000000 nodes, and how many states the minimal automata of the others have together"
         [argument! { "seed", Form::Operand, Value::Number(0, MOST_SEED), "SEED", "The number that the drawing begins from, up to 2147483647" },
         argument! { "count", Form::Operand, Value::Number(1, MOST_COUNT), "COUNT", "How many formulas are drawn, from 1 to 1000" }];
+    "together" "Reports whether the requirements of all files can be satisfied together, and whether every behaviour that satisfied all of \
+them so far can go on, with a shortest one that cannot"
+        [argument! { "file", Form::Operand, Value::FileNames, "FILE", "The formula files, one or more, whose variables are joined by their names" },
+        STATES, NODES, TUPLES];
+    "follows" "Reports whether each behaviour that satisfies all files after the first also satisfies the first, with a shortest one that does not"
+        [argument! { "first", Form::Operand, Value::FileName, "FIRST", "The formula file that is to follow from the others" },
+        argument! { "others", Form::Operand, Value::FileNames, "FILE", "The other formula files, one or more, whose variables are joined by their names" },
+        STATES, NODES, TUPLES];
 };
 
 // The table.
@@ -240,11 +260,12 @@ fn arg_of<'a>(alloc: Global, argument: &Argument<'a>) -> Arg<'a>
 
 // The argument, which has such a value.
 fn with_value<'a>(arg: Arg<'a>, value: Value) -> Arg<'a>
-    ensures rule { rule_seen result ≡ with_parser (value_seen value) (rule_seen arg.entry) }
+    ensures rule { rule_seen result ≡ taken_as (value_seen value) (rule_seen arg.entry) }
     ensures local { result.global ≡ arg.entry.global }
 {
     match value {
         Value::FileName => arg,
+        Value::FileNames => arg.action(ArgAction::Append),
         Value::Number(least, most) => {
             arg.value_parser(ValueParser::unsigned(u64::from(least), u64::from(most)))
         }

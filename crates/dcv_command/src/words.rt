@@ -1,14 +1,14 @@
 //! What the words of the command line ask for.
-ghost use Rattle.std.specs.Prelude.{◌≡◌, ◌≢◌, true, [], map, option_map, IfOk, IfErr, Some, string_bytes};
+ghost use Rattle.std.specs.Prelude.{◌≡◌, ◌≢◌, true, [], codes, map, option_map, IfOk, IfErr, Some, string_bytes};
 ghost use Rattle.clap.specs.Words.{fault_of, first_of, found_of, rows_of, subcommand_of, subcommand_rows_of, takes};
 ghost use Rattle.dcv_command.specs.Program.{program as the_program};
 ghost use Rattle.dcv_command.specs.Request.{IsInRange, IsTaken, request_of, request_of_subcommand, number_in as number_in_rows};
-ghost use Rattle.dcv_command.specs.Request.{asked_of, request_in as request_among};
-ghost use Rattle.dcv_command.specs.Table.{report, certify, convert, implies, stuck, synth, replay, sweep, version_numbered as the_version};
+ghost use Rattle.dcv_command.specs.Request.{asked_of, names_in as names_in_rows, request_in as request_among};
+ghost use Rattle.dcv_command.specs.Table.{report, certify, convert, implies, stuck, synth, replay, sweep, together, follows, version_numbered as the_version};
 ghost use Rattle.dcv_command.specs.declared.words.WordsFault.TheVariants.{Memory};
-ghost use Rattle.dcv_command.specs.Seen.{asked_by, HasText, IsUsageOnlyWhere};
+ghost use Rattle.dcv_command.specs.Seen.{asked_by, names_seen, HasText, IsUsageOnlyWhere};
 
-use crate::program::{MOST_COUNT, MOST_INPUTS, MOST_SEED, MOST_VERSION, program};
+use crate::program::{MOST_COUNT, MOST_INPUTS, MOST_SEED, MOST_TUPLES, MOST_VERSION, program};
 use clap::error::ErrorKind;
 use clap::{ArgMatches, Error};
 use dcv_explore::Limits;
@@ -17,7 +17,7 @@ use std::alloc::{AllocError, Global};
 use std::convert::AsStr;
 
 /// What the program is asked for.
-#[derive(Clone, Copy)]
+#[derive(Drop)]
 pub enum Request<'a> {
     /// A report on the formula in the file of this name, of which no step exceeds the limits.
     Report {
@@ -62,6 +62,20 @@ pub enum Request<'a> {
         seed: u32,
         count: u32,
     },
+    /// Whether the formulas in the files can be satisfied together, and whether what has kept to all of them so far can always go on, where no
+    /// step exceeds the limits, with so many tuples of states.
+    Together {
+        files: Vec<&'a str>,
+        limits: Limits,
+        tuples: u32,
+    },
+    /// Whether the formulas in the others together imply that in the first file, with the same limits.
+    Follows {
+        first: &'a str,
+        others: Vec<&'a str>,
+        limits: Limits,
+        tuples: u32,
+    },
 }
 
 /// The subset of a language that an observer is written in.
@@ -97,7 +111,7 @@ pub fn read_words<'a, S: AsStr>(alloc: Global, words: &'a [S]) -> Result<Request
     ensures text { IfErr result HasText }
 {
     let matches = matches_of(alloc, words)?;
-    match request_in(&matches) {
+    match request_in(alloc, &matches)? {
         Some(request) => Ok(request),
         None => unreachable!(),
     }
@@ -133,33 +147,44 @@ fn text_of(alloc: Global, error: &Error) -> Result<String, AllocError>
 }
 
 // What the matches of the words ask for.
-fn request_in<'a>(matches: &ArgMatches<'a>) -> Option<Request<'a>>
-    ensures { option_map asked_by result ≡ request_of_subcommand (subcommand_rows_of matches.now) }
+fn request_in<'a>(
+    alloc: Global,
+    matches: &ArgMatches<'a>,
+) -> Result<Option<Request<'a>>, AllocError>
+    ensures { IfOk result (λ request. option_map asked_by request ≡ request_of_subcommand (subcommand_rows_of matches.now)) }
 {
-    let (name, matches) = matches.subcommand()?;
-    request_named(name, matches)
+    match matches.subcommand() {
+        Some((name, matches)) => request_named(alloc, name, matches),
+        None => Ok(None),
+    }
 }
 
 // What the subcommand of this name asks for, with its matches.
-fn request_named<'a>(name: &str, matches: &ArgMatches<'a>) -> Option<Request<'a>>
-    ensures { option_map asked_by result ≡ request_among name.now (rows_of (found_of matches.now)) }
+fn request_named<'a>(
+    alloc: Global,
+    name: &str,
+    matches: &ArgMatches<'a>,
+) -> Result<Option<Request<'a>>, AllocError>
+    ensures { IfOk result (λ request. option_map asked_by request ≡ request_among name.now (rows_of (found_of matches.now))) }
 {
     match name {
-        "check" => report_in(matches, Kind::Check),
-        "automaton" => report_in(matches, Kind::Automaton),
-        "lustre" => report_in(matches, Kind::Lustre),
-        "c" => report_in(matches, Kind::C),
-        "tables" => report_in(matches, Kind::Tables),
-        "all" => report_in(matches, Kind::All),
-        "certify" => certify_in(matches),
-        "convert" => convert_in(matches),
-        "implies" => implies_in(matches),
-        "stuck" => stuck_in(matches),
-        "synth" => synth_in(matches),
-        "replay-lustre" => replay_in(matches, Subset::Lustre),
-        "replay-c" => replay_in(matches, Subset::C),
-        "sweep" => sweep_in(matches),
-        _ => None,
+        "check" => Ok(report_in(matches, Kind::Check)),
+        "automaton" => Ok(report_in(matches, Kind::Automaton)),
+        "lustre" => Ok(report_in(matches, Kind::Lustre)),
+        "c" => Ok(report_in(matches, Kind::C)),
+        "tables" => Ok(report_in(matches, Kind::Tables)),
+        "all" => Ok(report_in(matches, Kind::All)),
+        "certify" => Ok(certify_in(matches)),
+        "convert" => Ok(convert_in(matches)),
+        "implies" => Ok(implies_in(matches)),
+        "stuck" => Ok(stuck_in(matches)),
+        "synth" => Ok(synth_in(matches)),
+        "replay-lustre" => Ok(replay_in(matches, Subset::Lustre)),
+        "replay-c" => Ok(replay_in(matches, Subset::C)),
+        "sweep" => Ok(sweep_in(matches)),
+        "together" => Ok(together_in(matches, names_in(alloc, matches, "file")?)),
+        "follows" => Ok(follows_in(matches, names_in(alloc, matches, "others")?)),
+        _ => Ok(None),
     }
 }
 
@@ -269,6 +294,54 @@ fn sweep_in<'a>(matches: &ArgMatches<'a>) -> Option<Request<'a>>
     let seed = number_in(matches, "seed", 0, MOST_SEED)?;
     let count = number_in(matches, "count", 1, MOST_COUNT)?;
     Some(Request::Sweep { seed, count })
+}
+
+// The set of requirements that is asked about, in these files.
+fn together_in<'a>(matches: &ArgMatches<'a>, files: Option<Vec<&'a str>>) -> Option<Request<'a>>
+    requires files { option_map names_seen files.entry ≡ names_in_rows (codes "file") (rows_of (found_of matches.now)) }
+    ensures { option_map asked_by result ≡ asked_of together (rows_of (found_of matches.now)) }
+{
+    let files = files?;
+    let states = number_in(matches, "states", 1, MOST_STATES)?;
+    let nodes = number_in(matches, "nodes", 1, MOST_NODES)?;
+    let tuples = number_in(matches, "tuples", 1, MOST_TUPLES)?;
+    Some(Request::Together {
+        files,
+        limits: Limits { states, nodes },
+        tuples,
+    })
+}
+
+// The comparison with these other files that is asked for.
+fn follows_in<'a>(matches: &ArgMatches<'a>, others: Option<Vec<&'a str>>) -> Option<Request<'a>>
+    requires others { option_map names_seen others.entry ≡ names_in_rows (codes "others") (rows_of (found_of matches.now)) }
+    ensures { option_map asked_by result ≡ asked_of follows (rows_of (found_of matches.now)) }
+{
+    let first = operand_in(matches, "first")?;
+    let others = others?;
+    let states = number_in(matches, "states", 1, MOST_STATES)?;
+    let nodes = number_in(matches, "nodes", 1, MOST_NODES)?;
+    let tuples = number_in(matches, "tuples", 1, MOST_TUPLES)?;
+    Some(Request::Follows {
+        first,
+        others,
+        limits: Limits { states, nodes },
+        tuples,
+    })
+}
+
+// The names of a list of operands, one or more.
+fn names_in<'a>(
+    alloc: Global,
+    matches: &ArgMatches<'a>,
+    id: &str,
+) -> Result<Option<Vec<&'a str>>, AllocError>
+    ensures { IfOk result (λ names. option_map names_seen names ≡ names_in_rows id.now (rows_of (found_of matches.now))) }
+{
+    match matches.get_strs(id) {
+        Some(names) if !names.is_empty() => Ok(Some(names.to_vec(alloc)?)),
+        _ => Ok(None),
+    }
 }
 
 // The value of an operand.
