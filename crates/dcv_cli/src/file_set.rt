@@ -198,7 +198,7 @@ fn decide_together<'a>(
     ensures decided { IfOk result (λ decided. IsDecidedTogether tuples set.now.joint (map raw_accepts set.now.autos.items) (outcome_of_decided decided)) }
     ensures over { IfErr result (IsRefusedIn (IsDecidedTogether tuples set.now.joint (map raw_accepts set.now.autos.items))) }
 {
-    let width = set.joint.names().len() as u8;
+    let width = set.joint.width();
     let example = least_within(possible(alloc, &set.autos, width, tuples)?, tuples)?;
     let stuck = least_within(stuck(alloc, &set.autos, width, tuples)?, tuples)?;
     Ok(Decided {
@@ -228,7 +228,7 @@ fn decide_following<'a>(
     ensures decided { IfOk result (λ following. IsDecidedFollowing tuples set.now.joint (map raw_accepts set.now.autos.items) (outcome_of_following following)) }
     ensures over { IfErr result (IsRefusedIn (IsDecidedFollowing tuples set.now.joint (map raw_accepts set.now.autos.items))) }
 {
-    let width = set.joint.names().len() as u8;
+    let width = set.joint.width();
     let least = least_within(follows(alloc, &set.autos, width, tuples)?, tuples)?;
     Ok(Following {
         joint: &set.joint,

@@ -20,7 +20,7 @@ use Rattle.dcv_command.specs.Program.{program}
 use Rattle.dcv_command.specs.Table.{Argument, Asks, Command, Of, Value, FileName, FileNames, Number, commands}
 use Rattle.dcv_language.specs.Limits.{most_states, most_nodes}
 use Rattle.dcv_command.specs.Table.{most_inputs, most_seed, most_count, most_tuples}
-pub use Rattle.dcv_command.specs.Table.{Request, Report, Certify, Convert, Implies, Stuck, Synth, Replay, Sweep, Together, Follows}
+pub use Rattle.dcv_command.specs.Table.{Request, Report, Certify, Convert, Implies, Stuck, Synth, Replay, Sweep, Set}
 
 abbrev pub files_of : Request → List (List ℕ)
 files_of (Report kind name limits) = name ∷ []
@@ -31,8 +31,7 @@ files_of (Stuck name limits) = name ∷ []
 files_of (Synth name inputs limits) = name ∷ []
 files_of (Replay subset observer trace) = observer ∷ trace ∷ []
 files_of (Sweep seed count) = []
-files_of (Together names limits tuples) = names
-files_of (Follows first others limits tuples) = first ∷ others
+files_of (Set question names limits tuples) = names
 
 pub record AreInRange (limits : Limits) : Type 0 where
   pub some_states : 1 ≤ limits.states
@@ -65,8 +64,7 @@ IsInRange (Stuck name limits) = AreInRange limits
 IsInRange (Synth name inputs limits) = AreInputsInRange inputs limits
 IsInRange (Replay subset observer trace) = Unit {0}
 IsInRange (Sweep seed count) = CanBeDrawn seed count
-IsInRange (Together names limits tuples) = AreJoinable (length names) limits tuples
-IsInRange (Follows first others limits tuples) = AreJoinable (length others) limits tuples
+IsInRange (Set question names limits tuples) = AreJoinable (length names) limits tuples
 
 -- ---- the values of a command's arguments
 

@@ -14,11 +14,11 @@ use Rattle.dcv_command.specs.declared.program.Form.TheVariants.{Operand as CodeO
 use Rattle.dcv_command.specs.declared.program.Value.{Value as CodeValue}
 use Rattle.dcv_command.specs.declared.program.Value.TheVariants.{FileName as CodeFileName, FileNames as CodeFileNames, Number as CodeNumber}
 use Rattle.dcv_command.specs.declared.words.Request.{Request as CodeRequest}
-use Rattle.dcv_command.specs.declared.words.Request.TheVariants.{Report as CodeReport, Certify as CodeCertify, Convert as CodeConvert, Implies as CodeImplies, Stuck as CodeStuck, Synth as CodeSynth, Replay as CodeReplay, Sweep as CodeSweep, Together as CodeTogether, Follows as CodeFollows}
+use Rattle.dcv_command.specs.declared.words.Request.TheVariants.{Report as CodeReport, Certify as CodeCertify, Convert as CodeConvert, Implies as CodeImplies, Stuck as CodeStuck, Synth as CodeSynth, Replay as CodeReplay, Sweep as CodeSweep, Set as CodeSet}
 use Rattle.dcv_command.specs.declared.words.WordsFault.{WordsFault}
 use Rattle.dcv_command.specs.declared.words.WordsFault.TheVariants.{Usage, Memory}
 use Rattle.dcv_command.specs.Program.{shape_of}
-use Rattle.dcv_command.specs.Table.{Argument, Form, Operand, Required, WithDefault, Value, FileName, FileNames, Number, Request, Report, Certify, Convert, Implies, Stuck, Synth, Replay, Sweep, Together, Follows}
+use Rattle.dcv_command.specs.Table.{Argument, Form, Operand, Required, WithDefault, Value, FileName, FileNames, Number, Request, Report, Certify, Convert, Implies, Stuck, Synth, Replay, Sweep, Set}
 
 abbrev pub form_seen : CodeForm → Form
 form_seen CodeOperand = Operand
@@ -48,8 +48,7 @@ asked_by (CodeStuck file limits) = Stuck file.now limits
 asked_by (CodeSynth file inputs limits) = Synth file.now inputs limits
 asked_by (CodeReplay subset observer trace) = Replay subset observer.now trace.now
 asked_by (CodeSweep seed count) = Sweep seed count
-asked_by (CodeTogether files limits tuples) = Together (names_seen files) limits tuples
-asked_by (CodeFollows first others limits tuples) = Follows first.now (names_seen others) limits tuples
+asked_by (CodeSet asked files limits tuples) = Set asked (names_seen files) limits tuples
 
 abbrev pub IsUsageOnlyWhere : Type 0 → WordsFault → Type 0
 IsUsageOnlyWhere P (Usage text) = P

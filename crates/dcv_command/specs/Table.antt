@@ -18,6 +18,8 @@ use Rattle.dcv_language.specs.Limits.{most_variables, most_states, most_nodes}
 use Rattle.dcv_explore.specs.declared.explorer.Limits.{Limits}
 use Rattle.dcv_language.specs.declared.kind.Kind.{Kind}
 use Rattle.dcv_language.specs.declared.kind.Kind.TheVariants.{Check, Automaton, Lustre, C, Tables, All}
+use Rattle.dcv_command.specs.declared.words.SetQuestion.{SetQuestion}
+use Rattle.dcv_command.specs.declared.words.SetQuestion.TheVariants.{Together, Follows}
 use Rattle.dcv_command.specs.declared.words.Subset.{Subset}
 use Rattle.dcv_command.specs.declared.words.Subset.TheVariants.{Lustre as LustreText, C as CText}
 use Rattle.dcv_command.specs.declared.words.Version.{Version}
@@ -40,10 +42,8 @@ pub data Request : Type 0 where
   Replay : (subset : Subset) → (observer trace : List ℕ) → Request
   -- a summary over so many formulas that are drawn from the seed
   Sweep : (seed count : ℕ) → Request
-  -- whether the formulas in the files can be satisfied together, and whether what has kept to all of them so far can always go on
-  Together : (names : List (List ℕ)) → (limits : Limits) → (tuples : ℕ) → Request
-  -- whether the formulas in the others together imply that in the first file
-  Follows : (first : List ℕ) → (others : List (List ℕ)) → (limits : Limits) → (tuples : ℕ) → Request
+  -- what is asked of the formulas in the files together
+  Set : (question : SetQuestion) → (names : List (List ℕ)) → (limits : Limits) → (tuples : ℕ) → Request
 
 abbrev pub most_version : ℕ
 most_version = 2
@@ -180,21 +180,18 @@ sweep = record {
   asks = Sweep;
 }
 
-abbrev pub together : Command
-together = record {
-  name = codes "together";
-  arguments = files (codes "file") ∷ states ∷ nodes ∷ tuples ∷ [];
-  asks = λ names states nodes tuples. Together names (limits_of states nodes) tuples;
-}
+abbrev pub set_name : SetQuestion → Text
+set_name Together = codes "together"
+set_name Follows = codes "follows"
 
-abbrev pub follows : Command
-follows = record {
-  name = codes "follows";
-  arguments = file (codes "first") ∷ files (codes "others") ∷ states ∷ nodes ∷ tuples ∷ [];
-  asks = λ first others states nodes tuples. Follows first others (limits_of states nodes) tuples;
+abbrev pub set : SetQuestion → Command
+set question = record {
+  name = set_name question;
+  arguments = files (codes "file") ∷ states ∷ nodes ∷ tuples ∷ [];
+  asks = λ names states nodes tuples. Set question names (limits_of states nodes) tuples;
 }
 
 abbrev pub commands : List Command
 commands =
     report Check ∷ report Automaton ∷ report Lustre ∷ report C ∷ report Tables ∷ report All ∷ certify ∷ convert ∷ implies ∷ stuck ∷ synth
-    ∷ replay LustreText ∷ replay CText ∷ sweep ∷ together ∷ follows ∷ []
+    ∷ replay LustreText ∷ replay CText ∷ sweep ∷ set Together ∷ set Follows ∷ []

@@ -5,4 +5,4 @@ pub mod laws;
 mod program;
 mod words;
 
-pub use words::{Request, Subset, Version, WordsFault, read_words};
+pub use words::{Request, SetQuestion, Subset, Version, WordsFault, read_words};

@@ -148,6 +148,12 @@ const TUPLES: Argument<'static> =
 // Of a command over a formula file.
 const OVER_A_FORMULA: [Argument<'static>; 3] = [FORMULA_FILE, STATES, NODES];
 
+// Of a command over a set of formula files.
+const OVER_A_SET: [Argument<'static>; 4] = [
+    argument! { "file", Form::Operand, Value::FileNames, "FILE", "The formula files, one or more, whose variables are joined by their names" },
+    STATES, NODES, TUPLES,
+];
+
 // Of a command over an observer's text and a trace.
 const OVER_A_TRACE: [Argument<'static>; 2] = [
     argument! { "observer", Form::Operand, Value::FileName, "OBS", "The file with the observer's text" },
@@ -184,13 +190,8 @@ states and 1000000 nodes, and how many states the minimal automata of the others
         [argument! { "seed", Form::Operand, Value::Number(0, MOST_SEED), "SEED", "The number that the drawing begins from, up to 2147483647" },
         argument! { "count", Form::Operand, Value::Number(1, MOST_COUNT), "COUNT", "How many formulas are drawn, from 1 to 1000" }];
     "together" "Reports whether the requirements of all files can be satisfied together, and whether every behaviour that satisfied all of \
-them so far can go on, with a shortest one that cannot"
-        [argument! { "file", Form::Operand, Value::FileNames, "FILE", "The formula files, one or more, whose variables are joined by their names" },
-        STATES, NODES, TUPLES];
-    "follows" "Reports whether each behaviour that satisfies all files after the first also satisfies the first, with a shortest one that does not"
-        [argument! { "first", Form::Operand, Value::FileName, "FIRST", "The formula file that is to follow from the others" },
-        argument! { "others", Form::Operand, Value::FileNames, "FILE", "The other formula files, one or more, whose variables are joined by their names" },
-        STATES, NODES, TUPLES];
+them so far can go on, with a shortest one that cannot" OVER_A_SET;
+    "follows" "Reports whether each behaviour that satisfies all files after the first also satisfies the first, with a shortest one that does not" OVER_A_SET;
 };
 
 // The table.

@@ -4,7 +4,7 @@ ghost use Rattle.clap.specs.Words.{fault_of, first_of, found_of, rows_of, subcom
 ghost use Rattle.dcv_command.specs.Program.{program as the_program};
 ghost use Rattle.dcv_command.specs.Request.{IsInRange, IsTaken, request_of, request_of_subcommand, number_in as number_in_rows};
 ghost use Rattle.dcv_command.specs.Request.{asked_of, names_in as names_in_rows, request_in as request_among};
-ghost use Rattle.dcv_command.specs.Table.{report, certify, convert, implies, stuck, synth, replay, sweep, together, follows, version_numbered as the_version};
+ghost use Rattle.dcv_command.specs.Table.{report, certify, convert, implies, stuck, synth, replay, set, sweep, version_numbered as the_version};
 ghost use Rattle.dcv_command.specs.declared.words.WordsFault.TheVariants.{Memory};
 ghost use Rattle.dcv_command.specs.Seen.{asked_by, names_seen, HasText, IsUsageOnlyWhere};
 
@@ -62,20 +62,22 @@ pub enum Request<'a> {
         seed: u32,
         count: u32,
     },
-    /// Whether the formulas in the files can be satisfied together, and whether what has kept to all of them so far can always go on, where no
-    /// step exceeds the limits, with so many tuples of states.
-    Together {
+    /// What is asked of the formulas in the files together, where no step exceeds the limits, and within so many tuples of states.
+    Set {
+        asked: SetQuestion,
         files: Vec<&'a str>,
         limits: Limits,
         tuples: u32,
     },
-    /// Whether the formulas in the others together imply that in the first file, with the same limits.
-    Follows {
-        first: &'a str,
-        others: Vec<&'a str>,
-        limits: Limits,
-        tuples: u32,
-    },
+}
+
+/// What is asked of a set of formulas.
+#[derive(Clone, Copy)]
+pub enum SetQuestion {
+    /// Whether they can be satisfied together, and whether what has kept to all of them so far can always go on.
+    Together,
+    /// Whether the others together imply the first.
+    Follows,
 }
 
 /// The subset of a language that an observer is written in.
@@ -182,8 +184,16 @@ fn request_named<'a>(
         "replay-lustre" => Ok(replay_in(matches, Subset::Lustre)),
         "replay-c" => Ok(replay_in(matches, Subset::C)),
         "sweep" => Ok(sweep_in(matches)),
-        "together" => Ok(together_in(matches, names_in(alloc, matches, "file")?)),
-        "follows" => Ok(follows_in(matches, names_in(alloc, matches, "others")?)),
+        "together" => Ok(set_in(
+            matches,
+            SetQuestion::Together,
+            names_in(alloc, matches, "file")?,
+        )),
+        "follows" => Ok(set_in(
+            matches,
+            SetQuestion::Follows,
+            names_in(alloc, matches, "file")?,
+        )),
         _ => Ok(None),
     }
 }
@@ -296,35 +306,22 @@ fn sweep_in<'a>(matches: &ArgMatches<'a>) -> Option<Request<'a>>
     Some(Request::Sweep { seed, count })
 }
 
-// The set of requirements that is asked about, in these files.
-fn together_in<'a>(matches: &ArgMatches<'a>, files: Option<Vec<&'a str>>) -> Option<Request<'a>>
+// The question about these files.
+fn set_in<'a>(
+    matches: &ArgMatches<'a>,
+    asked: SetQuestion,
+    files: Option<Vec<&'a str>>,
+) -> Option<Request<'a>>
     requires files { option_map names_seen files.entry ≡ names_in_rows (codes "file") (rows_of (found_of matches.now)) }
-    ensures { option_map asked_by result ≡ asked_of together (rows_of (found_of matches.now)) }
+    ensures { option_map asked_by result ≡ asked_of (set asked) (rows_of (found_of matches.now)) }
 {
     let files = files?;
     let states = number_in(matches, "states", 1, MOST_STATES)?;
     let nodes = number_in(matches, "nodes", 1, MOST_NODES)?;
     let tuples = number_in(matches, "tuples", 1, MOST_TUPLES)?;
-    Some(Request::Together {
+    Some(Request::Set {
+        asked,
         files,
-        limits: Limits { states, nodes },
-        tuples,
-    })
-}
-
-// The comparison with these other files that is asked for.
-fn follows_in<'a>(matches: &ArgMatches<'a>, others: Option<Vec<&'a str>>) -> Option<Request<'a>>
-    requires others { option_map names_seen others.entry ≡ names_in_rows (codes "others") (rows_of (found_of matches.now)) }
-    ensures { option_map asked_by result ≡ asked_of follows (rows_of (found_of matches.now)) }
-{
-    let first = operand_in(matches, "first")?;
-    let others = others?;
-    let states = number_in(matches, "states", 1, MOST_STATES)?;
-    let nodes = number_in(matches, "nodes", 1, MOST_NODES)?;
-    let tuples = number_in(matches, "tuples", 1, MOST_TUPLES)?;
-    Some(Request::Follows {
-        first,
-        others,
         limits: Limits { states, nodes },
         tuples,
     })

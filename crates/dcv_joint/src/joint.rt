@@ -76,6 +76,13 @@ impl Joint {
         &self.names
     }
 
+    /// How many names there are.
+    pub fn width(&self) -> u8
+        ensures { result ≡ length self.now }
+    {
+        self.names.len() as u8
+    }
+
     /// Adds those of the names that are new, in their order. After a fault the list may have some of them.
     pub fn add(&mut self, alloc: Global, names: &[Name]) -> Result<(), JointFault>
         ensures added { OnOk result (self.new ≡ with_new self.old (texts names.now)) }
