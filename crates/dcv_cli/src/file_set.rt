@@ -1,5 +1,5 @@
 // The commands over a set of formula files: whether their requirements go together, or whether the first follows from the others.
-ghost use Rattle.std.specs.Prelude.{◌≡◌, ◌<◌, ◌+◌, ◌^◌, ℕ, suc, List, length, map, IfOk, IfErr};
+ghost use Rattle.std.specs.Prelude.{◌≡◌, ◌<◌, ◌+◌, ◌++◌, ◌∷◌, ◌^◌, [], ℕ, suc, List, length, map, IfOk, IfErr, OnOk, OnErr};
 ghost use Rattle.dcv_automaton_text.specs.Spelled.{name_words, spaced};
 ghost use Rattle.dcv_command.specs.Request.{Set as SetRequest};
 ghost use Rattle.dcv_dfa.specs.Raw.{raw_accepts};
@@ -30,7 +30,7 @@ use dcv_print::{put_stuck, put_word};
 use dcv_syntax::Text;
 use dcv_together::{Answer, follows, possible, stuck};
 use dcv_word::Word;
-use std::alloc::Global;
+use std::alloc::{AllocError, Global};
 
 /// What is asked of a set of files, and within which limits.
 #[derive(Clone, Copy)]
@@ -81,7 +81,7 @@ fn take_files<F: Files>(
     let mut taken = Vec::new(alloc);
     for name in names {
         match FormulaFile::take(alloc, files, name) {
-            Ok(formula) => taken.push(formula)?,
+            Ok(formula) => push(&mut taken, formula)?,
             Err(refusal) => return Err(refusal.in_file(number(taken.len()))),
         }
     }
@@ -147,11 +147,20 @@ fn autos_over(
     let mut autos = Vec::new(alloc);
     for (place, formula) in formulas.iter().enumerate() {
         match formula.build_over(alloc, joint, limits) {
-            Ok(auto) => autos.push(auto)?,
+            Ok(auto) => push(&mut autos, auto)?,
             Err(refusal) => return Err(refusal.in_file(number(place))),
         }
     }
     Ok(autos)
+}
+
+// Adds one at the end.
+fn push<T: Drop>(list: &mut Vec<T>, one: T) -> Result<(), AllocError>
+    ensures ok { OnOk result (list.new.items ≡ list.old.items ++ one.entry ∷ []) }
+    ensures err { OnErr result (list.new ≡ list.old) }
+{
+    list.push(one)?;
+    Ok(())
 }
 
 // The file at this place.
