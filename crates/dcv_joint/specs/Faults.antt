@@ -2,14 +2,14 @@
 --     most_names             how many names a joint list may have, and over how many slots a step may be
 --     too_many_at most names more       where the first of the others begins with which the list has more names than that
 --     has_few_slots places width steps  each step is over no more slots than that
+--     IsFaultOfNames, IsFaultOfCore     what a fault says
 use Rattle.std.specs.Prelude.{◌≡◌, ℕ, Bool, false, nat_le, if◌then◌else◌, List, [], ◌∷◌, length, Option, None, Some}
 use Rattle.std.specs.List.{list_all}
 use Rattle.dcv_core.specs.Steps.{CoreStep}
 use Rattle.dcv_joint.specs.declared.joint.JointFault.{JointFault}
 use Rattle.dcv_joint.specs.declared.joint.JointFault.TheVariants.{TooMany, Slots, Memory}
-use Rattle.dcv_joint.specs.Moved.{moved_slots, places_of}
+use Rattle.dcv_joint.specs.Moved.{moved_slots}
 use Rattle.dcv_joint.specs.Names.{with_name}
-use Rattle.dcv_scope.specs.Names.{texts}
 use Rattle.dcv_syntax.specs.declared.names.Name.{Name}
 
 abbrev pub most_names : ℕ
@@ -30,8 +30,8 @@ IsFaultOfNames joint more (TooMany at) = too_many_at most_names joint more ≡ S
 IsFaultOfNames joint more Slots = ⊥
 IsFaultOfNames joint more Memory = Unit {0}
 
--- and of the steps of a core over these names
-abbrev pub IsFaultOfCore : List (List ℕ) → List Name → List CoreStep → JointFault → Type 0
-IsFaultOfCore joint own steps (TooMany at) = ⊥
-IsFaultOfCore joint own steps Slots = has_few_slots (places_of joint (texts own)) (length joint) steps ≡ false
-IsFaultOfCore joint own steps Memory = Unit {0}
+-- and of the steps of a core whose names have these places among so many
+abbrev pub IsFaultOfCore : List ℕ → ℕ → List CoreStep → JointFault → Type 0
+IsFaultOfCore places width steps (TooMany at) = ⊥
+IsFaultOfCore places width steps Slots = has_few_slots places width steps ≡ false
+IsFaultOfCore places width steps Memory = Unit {0}

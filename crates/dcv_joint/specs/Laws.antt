@@ -1,6 +1,6 @@
 -- The laws that `src/laws.rt` proves.
-use Rattle.std.specs.Prelude.{◌≡◌, ◌≢◌, ◌↔◌, ℕ, ◌≤◌, List, [], ◌∷◌, length, map, None}
-use Rattle.std.specs.List.{All, AllPairs, Contains}
+use Rattle.std.specs.Prelude.{◌≡◌, ◌≢◌, ◌↔◌, ℕ, ◌≤◌, List, [], ◌∷◌, ◌++◌, length, map, None}
+use Rattle.std.specs.List.{All, AllPairs}
 use Rattle.dcv_core.specs.Core.{CoreTree}
 use Rattle.dcv_core.specs.Holds.{words_of}
 use Rattle.dcv_core.specs.Slots.{CoreIsBelow, OpIsBelow}
@@ -47,7 +47,7 @@ JointNamesDiffer = (lists : List (List (List ℕ))) → AllPairs ◌≢◌ (join
 
 -- it has the names of each list
 abbrev pub JointHasEach : Type 0
-JointHasEach = (lists : List (List (List ℕ))) (own : List (List ℕ)) → Contains own lists → HasAll (joint_names lists) own
+JointHasEach = (before after : List (List (List ℕ))) (own : List (List ℕ)) → HasAll (joint_names (before ++ own ∷ after)) own
 
 -- that of one list is the list
 abbrev pub JointOfOne : Type 0

@@ -1,5 +1,5 @@
 // The names of several files as one list, and the core of a file over it.
-ghost use Rattle.std.specs.Prelude.{◌≡◌, ◌<◌, ◌∷◌, ◌++◌, [], length, map, nat_le, true, None, IfOk, IfErr, OnOk};
+ghost use Rattle.std.specs.Prelude.{◌≡◌, ◌<◌, ◌≤◌, ◌∷◌, ◌++◌, [], length, map, nat_le, true, None, IfOk, IfErr, OnOk};
 ghost use Rattle.std.specs.List.{All};
 ghost use Rattle.dcv_core.specs.Core.{CoreTree};
 ghost use Rattle.dcv_core.specs.Slots.{OpIsBelow};
@@ -130,25 +130,6 @@ impl Joint {
         self.names.iter().any(|other| *other == *name)
     }
 
-    // The place of the name, or how many names there are.
-    fn place_of(&self, name: &Text) -> u8
-        ensures { result ≡ place_of self.now name.now }
-    {
-        let place = self.names.iter().position(|other| *other == *name);
-        place.unwrap_or(self.names.len()) as u8
-    }
-
-    // The places of the names.
-    fn places_of(&self, alloc: Global, names: &[Name]) -> Result<Vec<u8>, AllocError>
-        ensures { IfOk result (λ places. places.items ≡ places_of self.now (texts names.now)) }
-    {
-        let mut places = Vec::new(alloc);
-        for name in names {
-            places.push(self.place_of(&name.text))?;
-        }
-        Ok(places)
-    }
-
     /// The core of a file with these names, over the joint names.
     pub fn core_of(&self, alloc: Global, names: &[Name], core: &Core) -> Result<Core, JointFault>
         requires declared { core.now.declared ≡ length names.now }
@@ -156,13 +137,30 @@ impl Joint {
         ensures declared { IfOk result (λ moved. moved.declared ≡ length self.now) }
         ensures core { IfOk result (λ moved. (tree : CoreTree) → IsCoreOf tree core.now → IsCoreOf (moved_core self.now (texts names.now) tree) moved) }
         ensures few { OnOk result (has_few_slots (places_of self.now (texts names.now)) (length self.now) core.now.steps ≡ true) }
-        ensures fault { IfErr result (IsFaultOfCore self.now names.now core.now.steps) }
+        ensures fault { IfErr result (IsFaultOfCore (places_of self.now (texts names.now)) (length self.now) core.now.steps) }
     {
-        let places = self.places_of(alloc, names)?;
-        let width = self.names.len() as u8;
-        match core_over(alloc, &places, width, core)? {
-            Some(core) => Ok(core),
-            None => Err(JointFault::Slots),
-        }
+        let places = places_of(alloc, &self.names, names)?;
+        core_over(alloc, &places, self.names.len() as u8, core)
     }
+}
+
+// The places of the names among the joint ones.
+fn places_of(alloc: Global, joint: &[Text], names: &[Name]) -> Result<Vec<u8>, AllocError>
+    requires { length joint.now < 256 }
+    ensures { IfOk result (λ places. places.items ≡ places_of joint.now (texts names.now)) }
+{
+    let mut places = Vec::new(alloc);
+    for name in names {
+        places.push(place_of(joint, &name.text) as u8)?;
+    }
+    Ok(places)
+}
+
+// The place of the name, or how many names there are.
+fn place_of(names: &[Text], name: &Text) -> usize
+    ensures place { result ≡ place_of names.now name.now }
+    ensures within { result ≤ length names.now }
+{
+    let place = names.iter().position(|other| *other == *name);
+    place.unwrap_or(names.len())
 }

@@ -2,13 +2,18 @@
 ghost use Rattle.dcv_joint.specs.Laws.{MovedMeansRestricted, FileMeansOver, StepsAreInUse, NamesFit, JointNamesDiffer, JointHasEach, JointOfOne};
 ghost use Rattle.dcv_joint.specs.Laws.{RestrictedIsBehaviour, RestrictedToAll, EachIsRestricted};
 
+use dcv_scope::laws::{core_means_text, measures_bound_core};
+
 /// A core over the joint names means on a behaviour what it meant on the part over its own names. So does the core of a file, whose steps name
 /// only slots in use.
 pub fn moved_means_restricted()
     ensures tree { MovedMeansRestricted }
     ensures file { FileMeansOver }
     ensures in_use { StepsAreInUse }
-{}
+{
+    core_means_text();
+    measures_bound_core();
+}
 
 /// The joint list has the names of each list once, and that of one list is the list. Names fit exactly where the list is not too long.
 pub fn names_are_joint()

@@ -1,16 +1,16 @@
 // A core over other slots: those of its names go to their places, and all others after so many names.
-ghost use Rattle.std.specs.Prelude.{◌≡◌, ◌<◌, ◌≤◌, ◌+◌, ◌-◌, ◌^◌, ◌∷◌, ◌++◌, [], length, map, slice_get, true, None, Some, IfOk, IfSome};
+ghost use Rattle.std.specs.Prelude.{◌≡◌, ◌<◌, ◌≤◌, ◌+◌, ◌-◌, ◌^◌, ◌∷◌, ◌++◌, [], length, map, slice_get, true, Some, IfOk, IfErr, OnOk};
 ghost use Rattle.std.specs.List.{All};
 ghost use Rattle.dcv_core.specs.Core.{CoreTree};
 ghost use Rattle.dcv_core.specs.Slots.{IsBelow, AreBelow, BasicIsBelow, OpIsBelow};
 ghost use Rattle.dcv_core.specs.StepViews.{plain_op, plain_operator};
 ghost use Rattle.dcv_core.specs.Steps.{CoreStep, IsCoreOf};
 ghost use Rattle.dcv_core.specs.TruthViews.{plain_truth, plain_basic, truths_of};
-ghost use Rattle.dcv_joint.specs.Faults.{most_names, has_few_slots};
+ghost use Rattle.dcv_joint.specs.Faults.{has_few_slots, IsFaultOfCore};
 ghost use Rattle.dcv_joint.specs.Moved.{moved_slot, moved_slots, moved_truth, all_moved, moved_basic, moved_op, moved_step, moved_tree};
 ghost use Rattle.dcv_tracks.specs.ShiftSteps.{with_steps};
 
-use crate::joint::MOST_NAMES;
+use crate::joint::{JointFault, MOST_NAMES};
 use dcv_core::{Basic, Core, Op, Operator, Truth};
 use std::alloc::{AllocError, Global};
 
@@ -38,7 +38,7 @@ impl Moving<'_> {
     }
 
     // How many slots are in use, of so many.
-    fn slots(&self, slots: u8) -> usize
+    fn moved_slots(&self, slots: u8) -> usize
         ensures { result ≡ moved_slots self.now.places.now self.now.width slots }
     {
         self.width as usize + (slots as usize).saturating_sub(self.places.len())
@@ -129,7 +129,7 @@ impl Moving<'_> {
         ensures { result ≡ has_few_slots self.now.places.now self.now.width core.now.steps }
     {
         for step in 0..core.steps() {
-            if self.slots(core.slots(step)) > MOST_NAMES as usize {
+            if self.moved_slots(core.slots(step)) > MOST_NAMES as usize {
                 return false;
             }
         }
@@ -146,7 +146,7 @@ impl Moving<'_> {
             (moved.old.steps ++ moved_step self.now.places.now self.now.width from ∷ [])) }
     {
         let operator = self.operator(core.op(step))?;
-        let slots = self.slots(core.slots(step)) as u8;
+        let slots = self.moved_slots(core.slots(step)) as u8;
         moved.push(operator, core.span(step), slots)?;
         Ok(())
     }
@@ -165,19 +165,19 @@ impl Moving<'_> {
     }
 }
 
-/// The core with the slots of its names at these places, of so many names, or none where a step would have too many slots.
+/// The core with the slots of its names at these places, of so many names.
 pub(crate) fn core_over(
     alloc: Global,
     places: &[u8],
     width: u8,
     core: &Core,
-) -> Result<Option<Core>, AllocError>
+) -> Result<Core, JointFault>
     requires declared { core.now.declared ≡ length places.now }
     requires in_use { All (λ step. OpIsBelow step.slots step.op) core.now.steps }
-    ensures declared { IfOk result (λ moved. IfSome moved (λ moved. moved.declared ≡ width)) }
-    ensures core { IfOk result (λ moved. IfSome moved (λ moved. (tree : CoreTree) → IsCoreOf tree core.now
-        → IsCoreOf (moved_tree places.now width tree) moved)) }
-    ensures few { IfOk result (λ moved. is_some moved ≡ has_few_slots places.now width core.now.steps) }
+    ensures declared { IfOk result (λ moved. moved.declared ≡ width) }
+    ensures core { IfOk result (λ moved. (tree : CoreTree) → IsCoreOf tree core.now → IsCoreOf (moved_tree places.now width tree) moved) }
+    ensures few { OnOk result (has_few_slots places.now width core.now.steps ≡ true) }
+    ensures fault { IfErr result (IsFaultOfCore places.now width core.now.steps) }
 {
     let moving = Moving {
         alloc,
@@ -185,9 +185,9 @@ pub(crate) fn core_over(
         width,
     };
     if !moving.has_few_slots(core) {
-        return Ok(None);
+        return Err(JointFault::Slots);
     }
     let mut moved = Core::new(alloc, width);
     moving.add_steps(core, &mut moved)?;
-    Ok(Some(moved))
+    Ok(moved)
 }

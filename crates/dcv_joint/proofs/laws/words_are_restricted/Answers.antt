@@ -1,0 +1,11 @@
+use Rattle.dcv_joint.proofs.Places.{restricted_is_behaviour, restricted_to_all, each_is_restricted}
+use Rattle.dcv_joint.proofs.laws.words_are_restricted.Goals as goal
+
+pub returns-clause-behaviour : goal.returns-clause-behaviour
+returns-clause-behaviour c = restricted_is_behaviour
+
+pub returns-clause-all : goal.returns-clause-all
+returns-clause-all c = restricted_to_all
+
+pub returns-clause-each : goal.returns-clause-each
+returns-clause-each c = each_is_restricted
