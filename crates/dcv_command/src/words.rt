@@ -298,7 +298,7 @@ fn sweep_in<'a>(matches: &ArgMatches<'a>) -> Option<Request<'a>>
 
 // The set of requirements that is asked about, in these files.
 fn together_in<'a>(matches: &ArgMatches<'a>, files: Option<Vec<&'a str>>) -> Option<Request<'a>>
-    requires files { option_map names_seen files.entry ≡ names_in_rows (codes "file") (rows_of (found_of matches.now)) }
+    requires files { option_map names_seen files ≡ names_in_rows (codes "file") (rows_of (found_of matches.now)) }
     ensures { option_map asked_by result ≡ asked_of together (rows_of (found_of matches.now)) }
 {
     let files = files?;
@@ -314,7 +314,7 @@ fn together_in<'a>(matches: &ArgMatches<'a>, files: Option<Vec<&'a str>>) -> Opt
 
 // The comparison with these other files that is asked for.
 fn follows_in<'a>(matches: &ArgMatches<'a>, others: Option<Vec<&'a str>>) -> Option<Request<'a>>
-    requires others { option_map names_seen others.entry ≡ names_in_rows (codes "others") (rows_of (found_of matches.now)) }
+    requires others { option_map names_seen others ≡ names_in_rows (codes "others") (rows_of (found_of matches.now)) }
     ensures { option_map asked_by result ≡ asked_of follows (rows_of (found_of matches.now)) }
 {
     let first = operand_in(matches, "first")?;
