@@ -5,7 +5,7 @@ use Rattle.dcv_command.proofs.Common.{option_map_or, AllByRecursion, list_all, l
 use Rattle.dcv_command.proofs.Common.{Kinds, Row, Rule, Shape, Text, check_fault, check_kinds, or_else, default_passes, is_given, accepts}
 use Rattle.dcv_command.proofs.Common.{explicit_source, Held, Walk, idle, nothing_held, settled, walk_from, with_default, is_false, both, append-nil}
 use Rattle.dcv_command.proofs.Common.{IsOption, has_name, asked_in, asked_of, Argument, Asks, Command, Form, Operand, Required, WithDefault, Of}
-use Rattle.dcv_command.proofs.Common.{Value, FileName, FileNames, Number, value_of, Waiting, has_row, option as option_of, positional}
+use Rattle.dcv_command.proofs.Common.{Value, FileName, FileNames, Number, value_of, Waiting, codes, has_row, option as option_of, positional}
 use Rattle.std.specs.Prelude.{Contains, IfSome}
 use Rattle.std.specs.Option.{option_or}
 use Rattle.std.proofs.ByRecursion.{All-append, All-get_or, All-map, All-weaker, all_kept_by, kept_by_passes}
