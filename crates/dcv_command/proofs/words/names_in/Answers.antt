@@ -1,5 +1,5 @@
 -- The names are the values of the row, of which there is one at least.
-use Rattle.dcv_command.proofs.Common.{◌≡◌, refl, sym, ap, ◌∙◌, List, [], ◌∷◌, Option, None, Some, length, map, option_and_then, option_map, arith, found_of}
+use Rattle.dcv_command.proofs.Common.{◌≡◌, ◌<◌, refl, sym, ap, ◌∙◌, List, [], ◌∷◌, Option, None, Some, length, map, option_and_then, option_map, arith, found_of}
 use Rattle.dcv_command.proofs.Common.{some_names, Text}
 use Rattle.std.specs.Borrow.{Bor}
 use Rattle.clap.specs.Words.{matched_of, raw_values, rows_of}
@@ -22,8 +22,8 @@ none_named : (names : List (Bor Text)) → length names ≡ 0 → None ≡ some_
 none_named [] none = refl
 none_named (name ∷ names) none = absurd (omega arith)
 
-some_named : (names : List (Bor Text)) → (length names ≡ 0 → ⊥) → Some (named names) ≡ some_names (named names)
-some_named [] some = absurd (some refl)
+some_named : (names : List (Bor Text)) → 0 < length names → Some (named names) ≡ some_names (named names)
+some_named [] some = absurd (omega arith)
 some_named (name ∷ names) some = refl
 
 pub returns-in_default : goal.returns-in_default
@@ -32,9 +32,11 @@ returns-in_default c =
 
 pub returns-then-is_empty : goal.returns-then-is_empty
 returns-then-is_empty c =
-    none_named c.in-Some.names.now ? ∙ ap kept_of (sym c.in-Some.is) ∙ kept_is (found_of c.args.matches.now) c.args.id.now c.get_strs.result c.get_strs.ensures
+    let none : length c.in-Some.names.now ≡ 0 = grind (arith, c.is_empty.ensures, c.if-is_empty.true, c.if-is_empty.ensures) in
+    none_named c.in-Some.names.now none ∙ ap kept_of (sym c.in-Some.is) ∙ kept_is (found_of c.args.matches.now) c.args.id.now c.get_strs.result c.get_strs.ensures
 
 pub returns : goal.returns
 returns c =
-    ap (λ names. Some (named names)) (c.in_ok-to_vec.ensures.items_if_clones_equal (λ x y same. same)) ∙ some_named c.in-Some.names.now ?
+    let some : 0 < length c.in-Some.names.now = grind (arith, c.is_empty.ensures, c.if-is_empty.false, c.if-is_empty.ensures) in
+    ap (λ names. Some (named names)) (c.in_ok-to_vec.ensures.items_if_clones_equal (λ x y same. same)) ∙ some_named c.in-Some.names.now some
     ∙ ap kept_of (sym c.in-Some.is) ∙ kept_is (found_of c.args.matches.now) c.args.id.now c.get_strs.result c.get_strs.ensures
