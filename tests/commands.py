@@ -5,7 +5,8 @@ that is more than a tenth away from the figures of tests/gate_costs.py.
     tests/commands.py
 
 The texts are the usage of ./dcvalid, the table of README.md, and the table that the man page and completion are made of (workbench/commands.py). Each has
-every command, in any order, with as many operands and with the options that have to be given; the last has the other options too.
+every command, in any order, with as many operands and with the options that have to be given; the last has the other options too. A list of operands
+is written `FILE ..`, and counts as two.
 """
 import os
 import re
@@ -33,7 +34,7 @@ def table():
 
     def parts(words):
         forms = re.findall(r'argument! \{ "(\w+)", Form::(\w+)', words)
-        return (sum(form == "Operand" for _, form in forms), {"--" + name for name, form in forms if form == "Required"},
+        return (sum(form == "Operand" for _, form in forms) + words.count("Value::FileNames"), {"--" + name for name, form in forms if form == "Required"},
                 {"--" + name for name, form in forms if form == "WithDefault"})
 
     return {name: parts(arguments(part)) for name, part in rows}
@@ -48,8 +49,8 @@ def shown(words):
 def main():
     wanted = table()
     lists = {
-        "the usage of dcvalid": {name: shown(rest) for name, rest in re.findall(r"^  dcvalid (\S+)((?: [A-Z]+| --\w+ N)*)   ", text_of("dcvalid"), re.M)},
-        "the table of README.md": {name: shown(rest) for row in re.findall(r"^\| (`.*?) \| ", text_of("README.md"), re.M) for name, rest in re.findall(r"`([a-z-]+)((?: [A-Z]+| --\w+ N)+)`", row)},
+        "the usage of dcvalid": {name: shown(rest) for name, rest in re.findall(r"^  dcvalid (\S+)((?: [A-Z]+| \.\.| --\w+ N)*)   ", text_of("dcvalid"), re.M)},
+        "the table of README.md": {name: shown(rest) for row in re.findall(r"^\| (`.*?) \| ", text_of("README.md"), re.M) for name, rest in re.findall(r"`([a-z-]+)((?: [A-Z]+| \.\.| --\w+ N)+)`", row)},
         "the names in dcvalid": {name: None for name in re.search(r"^commands='(.*)'", text_of("dcvalid"), re.M)[1].split()},
     }
     wrong = 0

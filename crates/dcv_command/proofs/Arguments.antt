@@ -1,12 +1,13 @@
 -- The arguments of a command as `clap` builds them, and which of them it finds by a name or a place.
 use Rattle.dcv_command.proofs.Common.{◌≡◌, Bool, true, false, ℕ, List, [], ◌∷◌, ◌++◌, Option, None, Some, length, codes, find, map, not, ◌&&◌, ◌+◌}
 use Rattle.dcv_command.proofs.Common.{AllByRecursion, list_all, bytes_eq, Rule, Shape, Text, long_of, arg_by_index, Unsigned, IsOption, has_name}
-use Rattle.dcv_command.proofs.Common.{Argument, Form, Operand, WithDefault, Value, FileName, Number, default_passes}
+use Rattle.dcv_command.proofs.Common.{Argument, Form, Operand, WithDefault, Value, FileName, FileNames, Number, default_passes}
 use Rattle.std.specs.Prelude.{filter, ltb}
 use Rattle.clap.specs.Words.{new_rule}
 use Rattle.clap.specs.Simple.{filled, help_rule, new_shape, with_index}
 use Rattle.clap.specs.Walk.{arg_by_id, arg_by_long}
-use Rattle.clap.specs.declared.builder.action.ArgAction.TheVariants.{Set}
+use Rattle.clap.specs.declared.builder.action.ArgAction.{ArgAction}
+use Rattle.clap.specs.declared.builder.action.ArgAction.TheVariants.{Append, Set}
 use Rattle.clap.specs.declared.builder.value_parser.ValueParser.{ValueParser}
 use Rattle.clap.specs.declared.builder.value_parser.ValueParser.TheVariants.{String}
 use Rattle.dcv_command.specs.Listed.{are_distinct}
@@ -16,7 +17,16 @@ use Rattle.dcv_command.proofs.Parses.{is_checked}
 
 abbrev pub parser : Value → ValueParser
 parser FileName = String
+parser FileNames = String
 parser (Number least most) = Unsigned least most
+
+abbrev pub is_list : Value → Bool
+is_list FileNames = true
+is_list _ = false
+
+abbrev pub action_for : Bool → ArgAction
+action_for true = Append
+action_for false = Set
 
 abbrev pub called : Form → Text → Option Text
 called Operand id = None
@@ -42,7 +52,7 @@ abbrev pub built_rule : Numbered → Rule
 built_rule (place, one) = record (new_rule one.id) {
   long = called one.form one.id;
   index = placed one.form place;
-  action = Some Set;
+  action = Some (action_for (is_list one.value));
   range = Some (record { start_inclusive = 1; end_inclusive = 1 });
   value_names = 1;
   defaults = defaults_of one.form;
@@ -106,8 +116,17 @@ of_operand P Operand operand is = is
 of_operand P _ operand is = absurd (operand tt)
 
 abbrev pub is_small : Value → Bool
-is_small FileName = true
 is_small (Number least most) = ltb most 18446744073709551616
+is_small _ = true
+
+abbrev pub IfList : Bool → Type 0 → Type 0
+IfList true P = P
+IfList false P = Unit {0}
+
+-- no operand follows a list
+abbrev pub ListsAreLast : List Argument → Type 0
+ListsAreLast [] = Unit {0}
+ListsAreLast (one ∷ rest) = IfOperand one.form (IfList (is_list one.value) (operands rest ≡ [])) × ListsAreLast rest
 
 -- no two have one name
 abbrev pub are_apart : List Rule → Bool
@@ -123,6 +142,7 @@ pub record IsLookedUp (arguments : List Argument) (at : Numbered) : Type 0 where
   pub no_dashes : bytes_eq (flag at.1.id) (codes "--") ≡ false
   pub default : default_passes (built_rule at) ≡ true
   pub small : is_small at.1.value ≡ true
+  pub single : IfOption at.1.form (is_list at.1.value ≡ false)
   pub named : IfOperand at.1.form (has_name at.1.id (operands arguments) ≡ true)
 
 pub record AreLookedUp (arguments : List Argument) : Type 0 where
@@ -130,4 +150,5 @@ pub record AreLookedUp (arguments : List Argument) : Type 0 where
   pub checked : is_checked (built_shape [] arguments) ≡ true
   pub rules_apart : are_apart (built_rules arguments) ≡ true
   pub distinct : are_distinct (operands arguments) ≡ true
+  pub last : ListsAreLast arguments
   pub few : ltb (length arguments) 1000 ≡ true

@@ -12,7 +12,7 @@ pub use Rattle.clap.specs.Walk.{walk, has_row, Waiting, option, plain_word, Name
 pub use Rattle.clap.specs.Walk.{value, after_flag, long_or_other, to_positional}
 pub use Rattle.std.specs.Option.{option_map_or}
 pub use Rattle.std.proofs.lemmas.Slice.Eq.{bytes_eq-Decides}
-pub use Rattle.dcv_command.specs.Table.{Argument, Value, FileName, Number, Command, commands, Form, Operand, Required, WithDefault, Asks, Of, value_of}
+pub use Rattle.dcv_command.specs.Table.{Argument, Value, FileName, FileNames, Number, Command, commands, Form, Operand, Required, WithDefault, Asks, Of, value_of}
 pub use Rattle.clap.specs.Faults.{settle_fault, step_fault, check_fault, level_fault, turn_fault, other_fault, word_fault}
 pub use Rattle.std.proofs.lemmas.Bool.{false_from_ne_true}
 pub use Rattle.clap.specs.ValueTests.{accepts, is_unsigned_in}
@@ -20,7 +20,7 @@ pub use Rattle.clap.specs.Takes.{is_given, step_passes, default_passes, is_valid
 pub use Rattle.clap.specs.Lexer.{long_of, short_of}
 pub use Rattle.clap.specs.declared.builder.value_parser.ValueParser.TheVariants.{Unsigned}
 pub use Rattle.dcv_command.specs.Program.{program, rule_of}
-pub use Rattle.dcv_command.specs.Request.{request_in, request_of_subcommand, asked_of, asked_in, number_of, value_in}
+pub use Rattle.dcv_command.specs.Request.{request_in, request_of_subcommand, asked_of, asked_in, number_of, some_names, value_in}
 pub use Rattle.std.specs.Str.Parse.{digits_value, without_leading_plus}
 pub use Rattle.std.proofs.Math.Bool.{or-true}
 pub use Rattle.clap.proofs.SimpleLemmas.{is_false}

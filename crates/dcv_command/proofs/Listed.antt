@@ -5,28 +5,29 @@ use Rattle.dcv_command.proofs.Common.{option_map_or, AllByRecursion, list_all, l
 use Rattle.dcv_command.proofs.Common.{Kinds, Row, Rule, Shape, Text, check_fault, check_kinds, or_else, default_passes, is_given, accepts}
 use Rattle.dcv_command.proofs.Common.{explicit_source, Held, Walk, idle, nothing_held, settled, walk_from, with_default, is_false, both, append-nil}
 use Rattle.dcv_command.proofs.Common.{IsOption, has_name, asked_in, asked_of, Argument, Asks, Command, Form, Operand, Required, WithDefault, Of}
-use Rattle.dcv_command.proofs.Common.{Value, FileName, Number, value_of}
+use Rattle.dcv_command.proofs.Common.{Value, FileName, FileNames, Number, value_of, Waiting, codes, has_row, option as option_of, positional}
 use Rattle.std.specs.Prelude.{Contains, IfSome}
 use Rattle.std.specs.Option.{option_or}
 use Rattle.std.proofs.ByRecursion.{All-append, All-get_or, All-map, All-weaker, all_kept_by, kept_by_passes}
 use Rattle.std.proofs.lemmas.Bool.{and_from, ltb-true, or_from, or_left, or_right, or_parts}
-use Rattle.std.proofs.lemmas.List.{append_assoc}
+use Rattle.std.specs.Fmt.{decimal}
+use Rattle.std.proofs.lemmas.List.{append_assoc, map-append}
 use Rattle.std.proofs.lemmas.List.Folds.{list_any-append}
 use Rattle.clap.specs.Faults.{defaults_fault}
 use Rattle.clap.specs.declared.parser.matches.ValueSource.TheVariants.{CommandLine}
 use Rattle.clap.proofs.WalkLemmas.{find-map}
 use Rattle.dcv_command.specs.Laws.{ListedWordsAreTaken}
-use Rattle.dcv_command.specs.Listed.{AreGiven, AskFor, CanBeGiven, IsChosen, Values, are_distinct, asked_with, if_operand, operand_words, option_words, word_of}
-use Rattle.dcv_command.proofs.Arguments.{AreLookedUp, IfOperand, IsLookedUp, Numbered, built_rule, built_rules, built_shape, help, is_operand, is_required}
-use Rattle.dcv_command.proofs.Arguments.{is_small, next_place, numbered, of_numbered, operands, parser, to_numbered}
+use Rattle.dcv_command.specs.Listed.{AreGiven, AskFor, CanBeGiven, IsChosen, IsFileName, Values, are_distinct, asked_with, if_operand, operand_words, option_words, words_of}
+use Rattle.dcv_command.proofs.Arguments.{AreLookedUp, IfList, IfOperand, IsLookedUp, ListsAreLast, Numbered, built_rule, built_rules, built_shape, help, is_operand, is_required}
+use Rattle.dcv_command.proofs.Arguments.{is_list, is_small, next_place, of_operand, of_option, numbered, of_numbered, operands, parser, to_numbered}
 use Rattle.dcv_command.proofs.Commands.{IsCommand, is_among}
 use Rattle.dcv_command.proofs.Lists.{all_both, any_is_found, if_found, none_passes}
 use Rattle.dcv_command.proofs.NumberTexts.{HasNoDash, decimal_is_one, has_no_dash}
 use Rattle.dcv_command.proofs.Parses.{defaults_agree, no_kind}
-use Rattle.dcv_command.proofs.Rows.{IsRead, IsReadable, OfDefault, default_of, found_after, is_read, readable, row_named}
-use Rattle.dcv_command.proofs.TakenWords.{default_is_accepted}
-use Rattle.dcv_command.proofs.Walks.{Holds, Runs, ask_for, at_end, flag_goes, given_by, going, has_given_row, holding, holds_one, more, nothing_holds}
-use Rattle.dcv_command.proofs.Walks.{operand_goes, value_goes}
+use Rattle.dcv_command.proofs.Rows.{IsRead, IsReadable, OfDefault, default_of, found_after, given_row, is_read, one_is_read, read_of, readable, row_named}
+use Rattle.dcv_command.proofs.TakenWords.{default_is}
+use Rattle.dcv_command.proofs.Walks.{Goes, Holds, Runs, ask_for, at_end, flag_goes, given_by, going, has_given_row, holding, holds_more, holds_one, more}
+use Rattle.dcv_command.proofs.Walks.{next_to, nothing_holds, operand_goes, resting, value_goes, waiting_for}
 
 -- ---- lists of arguments with different names
 
@@ -55,11 +56,32 @@ distinct_append (one ∷ first) others apart more_apart (unnamed, more_unnamed) 
 
 -- ---- words that are given
 
-word_is : (value : Value) (given : Of value) → is_small value ≡ true → CanBeGiven value given
-    → HasNoDash (word_of value given) × ((accepts false (parser value) (word_of value given) ≡ true) × (value_of value (word_of value given) ≡ given))
-word_is FileName name small is = (has_no_dash name is, (refl, refl))
-word_is (Number least most) number small is =
-    let text = decimal_is_one least most number (omega (arith, ltb-true most 18446744073709551616 small)) is in (text.no_dash, (text.fits, text.value))
+-- a word that the walk takes for this value
+abbrev Fits : Value → Text → Type 0
+Fits value word = HasNoDash word × (accepts false (parser value) word ≡ true)
+
+-- one word, or one at least for a list
+abbrev AllFit : Value → Bool → List Text → Type 0
+AllFit value list [] = ⊥
+AllFit value true (word ∷ words) = Fits value word × AllByRecursion (Fits value) words
+AllFit value false (word ∷ []) = Fits value word
+AllFit value false (word ∷ other ∷ words) = ⊥
+
+words_fit : (value : Value) (given : Of value) → is_small value ≡ true → CanBeGiven value given → AllFit value (is_list value) (words_of value given)
+words_fit FileName name small is = (has_no_dash name is, refl)
+words_fit FileNames (name ∷ names) small (is, are) =
+    ((has_no_dash name is, refl), All-weaker IsFileName (Fits FileNames) (λ name is. (has_no_dash name is, refl)) names are)
+words_fit FileNames [] small none = absurd none
+words_fit (Number least most) number small is =
+    let text = decimal_is_one least most number (omega (arith, ltb-true most 18446744073709551616 small)) is in (text.no_dash, text.fits)
+
+words_read : (value : Value) (given : Of value) → is_small value ≡ true → CanBeGiven value given → read_of value (words_of value given) ≡ Some given
+words_read FileName name small is = refl
+words_read FileNames (name ∷ names) small are = refl
+words_read FileNames [] small none = absurd none
+words_read (Number least most) number small is =
+    let text = decimal_is_one least most number (omega (arith, ltb-true most 18446744073709551616 small)) is in
+    one_is_read (Number least most) (decimal number) text.fits ∙ ap Some text.value
 
 abbrev IsOperand : Form → Type 0
 IsOperand form = IsOption form → ⊥
@@ -69,9 +91,9 @@ record IsItem (arguments : List Argument) (values : Values) (at : Numbered) : Ty
   is : IsLookedUp arguments at
   can : CanBeGiven at.1.value (values at.1)
 
--- the text is one of the argument's, and stands for what is given for it
-abbrev Means : Values → Argument → Text → Type 0
-Means values one text = (accepts false (parser one.value) text ≡ true) × (value_of one.value text ≡ values one)
+-- the texts stand for what is given for the argument
+abbrev Means : Values → Argument → List Text → Type 0
+Means values one texts = read_of one.value texts ≡ Some (values one)
 
 module _ (name : Text) (arguments given : List Argument) (values : Values) where
   abbrev all : List Argument
@@ -85,59 +107,146 @@ module _ (name : Text) (arguments given : List Argument) (values : Values) where
 
   record Ended (from : Walk) (words : List Text) : Type 0 where
     held : Held
+    waiting : Waiting
     place : ℕ
-    holds : Holds arguments values held all
-    runs : Runs shape (going held idle place) from words
+    holds : Holds arguments held (map (given_by values) all)
+    runs : Runs shape (going held waiting place) from words
+
+  goes_on : (w next : Walk) (word : Text) (words : List Text) → Goes shape w word next → Ended next words → Ended w (word ∷ words)
+  goes_on w next word words goes ended =
+      record { held = ended.held; waiting = ended.waiting; place = ended.place; holds = ended.holds; runs = more goes ended.runs }
+
+  -- with the row of one argument more, what follows ends
+  abbrev Later : Argument → List Argument → Waiting → ℕ → List Text → List Text → Type 0
+  Later one done waiting place texts words =
+      (held : Held) → Holds arguments held (map (given_by values) done ++ given_row one texts ∷ []) → Ended (going held waiting place) words
+
+  -- the further names of a list
+  names_end : (at : Numbered) → IsLookedUp arguments at → IsOperand at.1.form → is_list at.1.value ≡ true → at.0 < 2000 → (done : List Argument)
+      → has_row at.1.id (map (given_by values) done) ≡ false → (words left texts : List Text) → AllByRecursion (Fits at.1.value) left → (held : Held)
+      → Holds arguments held (map (given_by values) done ++ given_row at.1 texts ∷ []) → Later at.1 done positional at.0 (texts ++ left) words
+      → Ended (going held positional at.0) (left ++ words)
+  names_end at is operand list few done none words [] texts fit held holds later =
+      later held (subst (λ texts. Holds arguments held (map (given_by values) done ++ given_row at.1 texts ∷ [])) (sym (append-nil texts)) holds)
+  names_end at is operand list few done none words (text ∷ left) texts ((no_dash, accepted), fit) held holds later =
+      let rows = map (given_by values) done ++ given_row at.1 texts ∷ [] in
+      goes_on (going held positional at.0) (going (holding rows at.1.id text) positional at.0) text (left ++ words)
+      (subst (λ list. Goes shape (going held positional at.0) text (going (holding rows at.1.id text) (resting list) (next_to list at.0))) list
+      (operand_goes arguments held rows holds at is text name no_dash positional refl operand few))
+      (names_end at is operand list few done none words left (texts ++ text ∷ []) fit (holding rows at.1.id text)
+      (holds_more arguments (map (given_by values) done) at texts held holds is list none text accepted)
+      (subst (λ texts. Later at.1 done positional at.0 texts words) (sym (append_assoc texts (text ∷ []) left)) later))
+
+  -- all words of an operand
+  operand_ends : (at : Numbered) → IsLookedUp arguments at → IsOperand at.1.form → at.0 < 2000 → (done : List Argument)
+      → has_row at.1.id (map (given_by values) done) ≡ false → (held : Held) → Holds arguments held (map (given_by values) done) → (words own : List Text)
+      → (list : Bool) → is_list at.1.value ≡ list → AllFit at.1.value list own → Later at.1 done (resting list) (next_to list at.0) own words
+      → Ended (going held idle at.0) (own ++ words)
+  operand_ends at is operand few done none held holds words [] list same fit later = absurd fit
+  operand_ends at is operand few done none held holds words (text ∷ other ∷ left) false same fit later = absurd fit
+  operand_ends at is operand few done none held holds words (text ∷ left) true same ((no_dash, accepted), fit) later =
+      let rows = map (given_by values) done in
+      goes_on (going held idle at.0) (going (holding rows at.1.id text) positional at.0) text (left ++ words)
+      (subst (λ list. Goes shape (going held idle at.0) text (going (holding rows at.1.id text) (resting list) (next_to list at.0))) same
+      (operand_goes arguments held rows holds at is text name no_dash idle refl operand few))
+      (names_end at is operand same few done none words left (text ∷ []) fit (holding rows at.1.id text)
+      (holds_one arguments held rows holds at is text none accepted) later)
+  operand_ends at is operand few done none held holds words (text ∷ []) false same (no_dash, accepted) later =
+      let rows = map (given_by values) done in
+      goes_on (going held idle at.0) (going (holding rows at.1.id text) idle (at.0 + 1)) text words
+      (subst (λ list. Goes shape (going held idle at.0) text (going (holding rows at.1.id text) (resting list) (next_to list at.0))) same
+      (operand_goes arguments held rows holds at is text name no_dash idle refl operand few))
+      (later (holding rows at.1.id text) (holds_one arguments held rows holds at is text none accepted))
+
+  -- an option with its word
+  option_ends : (at : Numbered) → IsLookedUp arguments at → IsOption at.1.form → (done : List Argument)
+      → has_row at.1.id (map (given_by values) done) ≡ false → (held : Held) (waiting : Waiting) (place : ℕ) → Holds arguments held (map (given_by values) done)
+      → (words own : List Text) → AllFit at.1.value false own → Later at.1 done idle place own words
+      → Ended (going held waiting place) ((codes "--" ++ at.1.id) ∷ own ++ words)
+  option_ends at is is_option done none held waiting place holds words (text ∷ []) (no_dash, accepted) later =
+      let rows = map (given_by values) done in
+      goes_on (going held waiting place) (going (waiting_for rows at.1.id) (option_of at.1.id) place) (codes "--" ++ at.1.id) (text ∷ words)
+      (flag_goes arguments held rows holds at is text name no_dash waiting place is_option)
+      (goes_on (going (waiting_for rows at.1.id) (option_of at.1.id) place) (going (holding rows at.1.id text) idle place) text words
+      (value_goes arguments held rows holds at is text name no_dash place)
+      (later (holding rows at.1.id text) (holds_one arguments held rows holds at is text none accepted)))
+  option_ends at is is_option done none held waiting place holds words [] fit later = absurd fit
+  option_ends at is is_option done none held waiting place holds words (text ∷ other ∷ own) fit later = absurd fit
+
+  none_left : (left : List Argument) → operands left ≡ [] → operand_words values left ≡ []
+  none_left [] none = refl
+  none_left (one ∷ left) none = by one.form (none_left left) none
+    where
+      by : (form : Form) → (operands left ≡ [] → operand_words values left ≡ []) → (if is_operand form then one ∷ operands left else operands left) ≡ []
+          → if_operand form (words_of one.value (values one)) (operand_words values left) ≡ []
+      by Operand later none = let wrong : one ∷ operands left ≡ [] = none in cc
+      by Required later none = later none
+      by (WithDefault text) later none = later none
 
   module _ (apart : are_distinct all ≡ true) where
-    options_end : (left done : List Argument) → done ++ left ≡ all → (held : Held) (place : ℕ) → Holds arguments values held done
-        → AllByRecursion IsGivenOption left
-        → Ended (going held idle place) (option_words values left)
-    options_end [] done e held place holds each =
-        record { held = held; place = place; holds = subst (Holds arguments values held) (sym (append-nil done) ∙ e) holds; runs = at_end }
-    options_end (one ∷ rest) done e held place holds ((number, (is, option)), each) =
-        let text = word_is one.value (values one) is.is.small is.can in
-        let fresh = distinct_before done rest one (subst (λ all. are_distinct all ≡ true) (sym e) apart) in
-        let next = options_end rest (done ++ one ∷ []) (append_assoc done (one ∷ []) rest ∙ e)
-        (holding (map (given_by values) done) one.id (word_of one.value (values one))) place
-        (holds_one arguments values held done holds (number, one) is.is fresh text.1.0) each in
-        record {
-          held = next.held;
-          place = next.place;
-          holds = next.holds;
-          runs = more (flag_goes arguments values held done holds (number, one) is.is name text.0 place option)
-              (more (value_goes arguments values held done holds (number, one) is.is name text.0 place) next.runs);
-        }
+    fresh : (one : Argument) (done rest : List Argument) → done ++ one ∷ rest ≡ all → has_row one.id (map (given_by values) done) ≡ false
+    fresh one done rest e = has_given_row values one.id done ∙ distinct_before done rest one (subst (λ all. are_distinct all ≡ true) (sym e) apart)
 
-    operands_end : (left done : List Argument) (place : ℕ) → done ++ (operands left ++ given) ≡ all → (held : Held) → Holds arguments values held done
+    with_one : (one : Argument) (done : List Argument) (held : Held) → Holds arguments held (map (given_by values) done ++ given_by values one ∷ [])
+        → Holds arguments held (map (given_by values) (done ++ one ∷ []))
+    with_one one done held = subst (Holds arguments held) (sym (map-append (given_by values) done (one ∷ [])))
+
+    options_end : (left done : List Argument) → done ++ left ≡ all → (held : Held) (waiting : Waiting) (place : ℕ)
+        → Holds arguments held (map (given_by values) done) → AllByRecursion IsGivenOption left
+        → Ended (going held waiting place) (option_words values left)
+    options_end [] done e held waiting place holds each =
+        record {
+          held = held;
+          waiting = waiting;
+          place = place;
+          holds = subst (λ done. Holds arguments held (map (given_by values) done)) (sym (append-nil done) ∙ e) holds;
+          runs = at_end;
+        }
+    options_end (one ∷ rest) done e held waiting place holds ((number, (is, option)), each) =
+        option_ends (number, one) is.is option done (fresh one done rest e) held waiting place holds (option_words values rest)
+        (words_of one.value (values one))
+        (subst (λ list. AllFit one.value list (words_of one.value (values one))) (of_option _ one.form option is.is.single)
+        (words_fit one.value (values one) is.is.small is.can))
+        (λ held holds. options_end rest (done ++ one ∷ []) (append_assoc done (one ∷ []) rest ∙ e) held idle place (with_one one done held holds) each)
+
+    abbrev OperandsEnd : List Argument → Type 0
+    OperandsEnd left = (done : List Argument) (place : ℕ) → done ++ (operands left ++ given) ≡ all → (held : Held)
+        → Holds arguments held (map (given_by values) done)
         → AllByRecursion (λ at. IsOperand at.1.form → IsItem arguments values at) (numbered left place) → place + length left < 2000
-        → AllByRecursion IsGivenOption given
         → Ended (going held idle place) (operand_words values left ++ option_words values given)
-    operands_end [] done place e held holds each few options = options_end given done e held place holds options
-    operands_end (one ∷ rest) done place e held holds (can, each) few options = by one.form (λ operand. operand) e each (operands_end rest)
+
+    operands_end : AllByRecursion IsGivenOption given → (left : List Argument) → ListsAreLast left → OperandsEnd left
+    operands_end options [] last done place e held holds each few = options_end given done e held idle place holds options
+    operands_end options (one ∷ rest) (last, lasts) done place e held holds (can, each) few =
+        by one.form (λ operand. operand) last e each (operands_end options rest lasts)
       where
-        by : (form : Form) → (IsOperand form → IsOperand one.form) → done ++ ((if is_operand form then one ∷ operands rest else operands rest) ++ given) ≡ all
-            → AllByRecursion (λ at. IsOperand at.1.form → IsItem arguments values at) (numbered rest (next_place form place))
-            → ((done : List Argument) (place : ℕ) → done ++ (operands rest ++ given) ≡ all → (held : Held) → Holds arguments values held done
-            → AllByRecursion (λ at. IsOperand at.1.form → IsItem arguments values at) (numbered rest place) → place + length rest < 2000
-            → AllByRecursion IsGivenOption given
-            → Ended (going held idle place) (operand_words values rest ++ option_words values given))
-            → Ended (going held idle place) (if_operand form (word_of one.value (values one)) (operand_words values rest) ++ option_words values given)
-        by Operand operand e each later =
+        own : List Text
+        own = words_of one.value (values one)
+
+        by : (form : Form) → (IsOperand form → IsOperand one.form) → IfOperand form (IfList (is_list one.value) (operands rest ≡ []))
+            → done ++ ((if is_operand form then one ∷ operands rest else operands rest) ++ given) ≡ all
+            → AllByRecursion (λ at. IsOperand at.1.form → IsItem arguments values at) (numbered rest (next_place form place)) → OperandsEnd rest
+            → Ended (going held idle place) (if_operand form own (operand_words values rest) ++ option_words values given)
+        by Operand operand last e each later =
             let item = can (operand (λ option. option)) in
-            let text = word_is one.value (values one) item.is.small item.can in
-            let fresh = distinct_before done (operands rest ++ given) one (subst (λ all. are_distinct all ≡ true) (sym e) apart) in
-            let next = later (done ++ one ∷ []) (place + 1) (append_assoc done (one ∷ []) (operands rest ++ given) ∙ e)
-            (holding (map (given_by values) done) one.id (word_of one.value (values one)))
-            (holds_one arguments values held done holds (place, one) item.is fresh text.1.0) each (omega (arith, few)) options in
-            record {
-              held = next.held;
-              place = next.place;
-              holds = next.holds;
-              runs = more (operand_goes arguments values held done holds (place, one) item.is name text.0 (operand (λ option. option))
-                  (omega (arith, few))) next.runs;
-            }
-        by _ operand e each later = later done place e held holds each (omega (arith, few)) options
+            subst (Ended (going held idle place)) (sym (append_assoc own (operand_words values rest) (option_words values given)))
+            (operand_ends (place, one) item.is (operand (λ option. option)) (omega (arith, few)) done (fresh one done (operands rest ++ given) e) held holds
+            (operand_words values rest ++ option_words values given) own (is_list one.value) refl (words_fit one.value (values one) item.is.small item.can)
+            (after (is_list one.value) last))
+          where
+            there : done ++ one ∷ (operands rest ++ given) ≡ all
+            there = e
+
+            after : (list : Bool) → IfList list (operands rest ≡ [])
+                → Later one done (resting list) (next_to list place) own (operand_words values rest ++ option_words values given)
+            after false last held holds =
+                later (done ++ one ∷ []) (place + 1) (append_assoc done (one ∷ []) (operands rest ++ given) ∙ there) held
+                (with_one one done held holds) each (omega (arith, few))
+            after true none held holds =
+                subst (λ words. Ended (going held positional place) (words ++ option_words values given)) (sym (none_left rest none))
+                (options_end given (done ++ one ∷ []) (append_assoc done (one ∷ []) given
+                ∙ ap (λ left. done ++ one ∷ (left ++ given)) (sym none) ∙ there) held positional place (with_one one done held holds) options)
+        by _ operand last e each later = later done place e held holds each (omega (arith, few))
 
 -- ---- what is chosen
 
@@ -162,11 +271,11 @@ required_named Required value given operand named there is required = or_right o
 required_named (WithDefault text) value given operand named there is required = absurd (true≢false (sym required))
 
 default_means : (form : Form) (value : Value) (given : Of value) (named : Bool) → IsChosen form value given named → named ≡ false
-    → OfDefault (λ text. accepts false (parser value) text ≡ true) form
-    → OfDefault (λ text. (accepts false (parser value) text ≡ true) × (value_of value text ≡ given)) form
-default_means (WithDefault text) value given true chosen is fits = absurd (true≢false is)
-default_means (WithDefault text) value given false chosen is fits = (fits, sym chosen)
-default_means _ value given named chosen is fits = tt
+    → OfDefault (λ text. read_of value (text ∷ []) ≡ Some (value_of value text)) form
+    → OfDefault (λ text. read_of value (text ∷ []) ≡ Some given) form
+default_means (WithDefault text) value given true chosen is reads = absurd (true≢false is)
+default_means (WithDefault text) value given false chosen is reads = reads ∙ ap Some (sym chosen)
+default_means _ value given named chosen is reads = tt
 
 none_lacks : (required given : Bool) → (required ≡ true → given ≡ true) → (required && not given) ≡ false
 none_lacks true given is = ap not (is refl)
@@ -176,7 +285,7 @@ values_asked : (values : Values) (left : List Argument) (asks : Asks left) (rows
     → asked_in left asks rows ≡ Some (asked_with left asks values)
 values_asked values [] request rows each = refl
 values_asked values (one ∷ rest) asks rows (is, others) =
-    ap (option_and_then (λ given. asked_in rest (asks given) rows)) (is.value ∙ ap Some is.is.1) ∙ values_asked values rest (asks (values one)) rows others
+    ap (option_and_then (λ given. asked_in rest (asks given) rows)) (is.value ∙ is.is) ∙ values_asked values rest (asks (values one)) rows others
 
 -- ---- a command of the table
 
@@ -251,9 +360,9 @@ module _ (command : Command) (is : IsCommand command) (values : Values) (given :
       operands_end command.name arguments given values
       (distinct_append (operands arguments) given looked_up.distinct are.once
       (All-weaker IsOperandItem (λ one. has_name one.id given ≡ false) unnamed (operands arguments) operand_items))
-      arguments [] 1 refl nothing_held (nothing_holds arguments values)
+      options arguments looked_up.last [] 1 refl nothing_held (nothing_holds arguments)
       (All-weaker IsKnown (λ at. IsOperand at.1.form → IsItem arguments values at) operand_item (numbered arguments 1) known)
-      (omega (arith, ltb-true (length arguments) 1000 looked_up.few)) options
+      (omega (arith, ltb-true (length arguments) 1000 looked_up.few))
 
   -- ---- after the words
 
@@ -274,8 +383,8 @@ module _ (command : Command) (is : IsCommand command) (values : Values) (given :
     where
       of_item : (one : Argument) (place : ℕ) → IsItem arguments values (place, one) → IsReadable (Means values) arguments (given_by values one)
       of_item one place item =
-          readable (Means values) (λ one text is. is.0) arguments (place, one) item.is (word_of one.value (values one)) CommandLine
-          (word_is one.value (values one) item.is.small item.can).1
+          readable (Means values) arguments (place, one) item.is (words_of one.value (values one)) CommandLine
+          (words_read one.value (values one) item.is.small item.can)
 
   -- what has been given is there
   given_last : (at : Numbered) → IsLookedUp arguments at → has_name at.1.id every ≡ true → is_given at.1.id at_last ≡ true
@@ -310,9 +419,10 @@ module _ (command : Command) (is : IsCommand command) (values : Values) (given :
   each_read =
       of_numbered (IsRead (Means values) at_last) arguments 1
       (All-weaker IsKnown (λ at. IsRead (Means values) at_last at.1)
-      (λ at known. is_read (Means values) (λ one text is. is.0) arguments looked_up rows each_readable (ap (check_kinds false false) nothing_lacks) at known.0
+      (λ at known. is_read (Means values) arguments looked_up rows each_readable (ap (check_kinds false false) nothing_lacks) at known.0
       (λ none. default_means at.1.form at.1.value (values at.1) (has_name at.1.id given) known.1 (left_out at none)
-      (default_is_accepted at.1.form at.1.value known.0.default)))
+      (default_is (λ text. read_of at.1.value (text ∷ []) ≡ Some (value_of at.1.value text)) at.1.form at.1.value _ (one_is_read at.1.value)
+      known.0.default)))
       (numbered arguments 1) known)
     where
       left_out : (at : Numbered) → row_named at.1.id rows ≡ None → has_name at.1.id given ≡ false
@@ -328,7 +438,7 @@ module _ (command : Command) (is : IsCommand command) (values : Values) (given :
 
   listed : AskFor (command.name ∷ operand_words values arguments ++ option_words values given) (asked_with arguments command.asks values)
   listed =
-      ask_for command is (operand_words values arguments ++ option_words values given) (going ended.held idle ended.place)
+      ask_for command is (operand_words values arguments ++ option_words values given) (going ended.held ended.waiting ended.place)
       (asked_with arguments command.asks values)
       ended.runs
       (ap (λ kinds. or_else kinds (behind (settled (built_rules arguments) ended.held))) ended.holds.no_fault ∙ ap behind ended.holds.settles

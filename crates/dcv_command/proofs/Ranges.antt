@@ -1,10 +1,10 @@
 -- The numbers of a request are in the ranges of their options and operands.
 use Rattle.dcv_command.proofs.Common.{◌≡◌, ◌≤◌, refl, subst, ℕ, Bool, true, false, List, [], ◌∷◌, Option, None, Some, find, option_and_then}
 use Rattle.dcv_command.proofs.Common.{if◌then◌else◌, AllByRecursion, bytes_eq, digits_value, without_leading_plus, Row, Text}
-use Rattle.dcv_command.proofs.Common.{is_unsigned_in, Unsigned, asked_in, asked_of, number_of, request_of_subcommand, value_in, Argument}
-use Rattle.dcv_command.proofs.Common.{Asks, Command, Of, Value, FileName, Number, commands}
-use Rattle.std.specs.Prelude.{IfSome}
-use Rattle.clap.specs.Words.{first_of, one_of}
+use Rattle.dcv_command.proofs.Common.{arith, is_unsigned_in, Unsigned, asked_in, asked_of, number_of, request_of_subcommand, value_in, Argument}
+use Rattle.dcv_command.proofs.Common.{Asks, Command, Of, Value, FileName, FileNames, Number, some_names, commands}
+use Rattle.std.specs.Prelude.{IfSome, ◌<◌, length}
+use Rattle.clap.specs.Words.{all_of, first_of, one_of}
 use Rattle.clap.proofs.ValueTestLemmas.{accepts-Accepts}
 use Rattle.dcv_command.specs.Request.{IsInRange, request_in}
 use Rattle.dcv_command.specs.Table.{Request}
@@ -23,6 +23,7 @@ known_after P Q next later (Some x) is = later x is
 -- what is given for an argument is in its range
 abbrev IsWithin : (value : Value) → Of value → Type 0
 IsWithin FileName name = Unit {0}
+IsWithin FileNames names = 0 < length names
 IsWithin (Number least most) number = (least ≤ number) × (number ≤ most)
 
 number_is_within : (least most : ℕ) (text : Text) → IfSome (number_of least most text) (IsWithin (Number least most))
@@ -33,8 +34,14 @@ number_is_within least most text = by (is_unsigned_in least most text) refl
     by true fits = let within = accepts-Accepts false (Unsigned least most) text fits in (within.2, within.3)
     by false fits = tt
 
+some_are_there : (names : List Text) → IfSome (some_names names) (IsWithin FileNames)
+some_are_there [] = tt
+some_are_there (name ∷ names) = omega arith
+
 value_is_within : (value : Value) (id : Text) (rows : List Row) → IfSome (value_in value id rows) (IsWithin value)
 value_is_within FileName id rows = known (λ _. Unit {0}) (λ _. tt) (first_of id rows)
+value_is_within FileNames id rows =
+    known_after (λ _. Unit {0}) (IsWithin FileNames) some_names (λ names _. some_are_there names) (all_of id rows) (known (λ _. Unit {0}) (λ _. tt) (all_of id rows))
 value_is_within (Number least most) id rows =
     known_after (λ _. Unit {0}) (IsWithin (Number least most)) (number_of least most) (λ text _. number_is_within least most text) (one_of id rows)
     (known (λ _. Unit {0}) (λ _. tt) (one_of id rows))

@@ -5,7 +5,7 @@ use Rattle.dcv_command.proofs.Common.{list_all, true≢false, both, arith, bytes
 use Rattle.dcv_command.proofs.Common.{has_row, is_false, short_of, long_of, finished, settled, nothing_held, walk, walk_from, rows_after}
 use Rattle.dcv_command.proofs.Common.{subcommand_met, after_flag, long_or_other, subcommand_or_other, trailing, check_fault, level_fault}
 use Rattle.dcv_command.proofs.Common.{settle_fault, step_passes, other_passes, turn_passes, program, request_of_subcommand, asked_in, asked_of}
-use Rattle.dcv_command.proofs.Common.{value_of, Command, commands, Argument, Asks, Form, WithDefault, Value}
+use Rattle.dcv_command.proofs.Common.{value_of, Command, commands, Argument, Asks, Form, WithDefault, Value, FileNames, Of, ◌++◌, reading_of}
 use Rattle.std.proofs.Common.{zero}
 use Rattle.std.specs.Prelude.{Contains, IfSome, IsSome, nat_le, slice_get, not}
 use Rattle.std.specs.Option.{option_or}
@@ -15,21 +15,21 @@ use Rattle.std.proofs.Math.Bool.{or-false}
 use Rattle.std.proofs.lemmas.List.Folds.{find-append}
 use Rattle.std.proofs.lemmas.Bool.{and_left, leb-true}
 use Rattle.clap.specs.Words.{built, subcommand_of}
-use Rattle.clap.specs.Walk.{answers_to, bundle_met, is_empty, plain, used}
+use Rattle.clap.specs.Walk.{answers_to, bundle_met, is_empty, more_values, plain, used, used_as}
 use Rattle.clap.specs.Simple.{built_leaf, help_shape, label_of, names_of}
 use Rattle.clap.specs.Faults.{defaults_fault, walk_fault}
-use Rattle.clap.specs.Takes.{entered_passes, flag_word_passes, flags_pass, long_passes, short_passes, use_passes, walk_passes}
+use Rattle.clap.specs.Takes.{action_passes, entered_passes, flag_word_passes, flags_pass, long_passes, short_passes, use_passes, walk_passes}
 use Rattle.clap.specs.declared.parser.matches.ValueSource.TheVariants.{CommandLine}
 use Rattle.clap.proofs.OnLiterals.{clap_on_literals}
 use Rattle.clap.proofs.WalkLemmas.{find-map}
 use Rattle.dcv_command.specs.Request.{IsTaken, request_of}
 use Rattle.dcv_command.specs.Laws.{IsCommandLine, TakenWordsAreCommandLines, TakenWordsAsk}
-use Rattle.dcv_command.proofs.Arguments.{AreLookedUp, IsLookedUp, Numbered, built_rule, built_rules, built_shape, defaults_of, help, numbered, of_numbered}
-use Rattle.dcv_command.proofs.Arguments.{parser}
+use Rattle.dcv_command.proofs.Arguments.{AreLookedUp, IsLookedUp, Numbered, action_for, built_rule, built_rules, built_shape, defaults_of, help, numbered, of_numbered}
+use Rattle.dcv_command.proofs.Arguments.{is_list, parser}
 use Rattle.dcv_command.proofs.Commands.{IsCommand, asked_below, built_command, each_among, fault_alone, faults_below, found_below, is_among, names, top}
 use Rattle.dcv_command.proofs.Lists.{if_found}
 use Rattle.dcv_command.proofs.Parses.{Keeps, is_none, no_kind, last_is_empty, level_keeps, program_agrees, use_same}
-use Rattle.dcv_command.proofs.Rows.{IsRead, IsReadable, OfDefault, is_read, readable, used_behind}
+use Rattle.dcv_command.proofs.Rows.{IsRead, IsReadable, OfDefault, all_at_row, given_row, is_read, one_is_read, read_of, readable, used_behind}
 
 -- ---- a first word that is no command's name is refused
 
@@ -140,35 +140,70 @@ begins (word ∷ rest) taken = begins_with word rest taken
 
 -- ---- what a command's words ask for
 
--- the argument takes the text
-abbrev Accepts : Argument → Text → Type 0
-Accepts one text = accepts false (parser one.value) text ≡ true
+-- the texts stand for something
+abbrev Stands : Argument → List Text → Type 0
+Stands one texts = (given : Of one.value) × (read_of one.value texts ≡ Some given)
 
-pub default_is_accepted : (form : Form) (value : Value) → (is_empty (defaults_of form) || list_all (accepts false (parser value)) (defaults_of form)) ≡ true
-    → OfDefault (λ text. accepts false (parser value) text ≡ true) form
-default_is_accepted (WithDefault text) value passes = (both (accepts false (parser value) text) true passes).0
-default_is_accepted _ value passes = tt
+one_stands : (one : Argument) (text : Text) → accepts false (parser one.value) text ≡ true → Stands one (text ∷ [])
+one_stands one text accepted = (value_of one.value text, one_is_read one.value text accepted)
 
-some_request : (left : List Argument) (asks : Asks left) (rows : List Row) → AllByRecursion (IsRead Accepts rows) left → IsSome (asked_in left asks rows)
+pub default_is : (P : Text → Type 0) (form : Form) (value : Value) (other : Bool) → ((text : Text) → accepts false (parser value) text ≡ true → P text)
+    → (is_empty (defaults_of form) || (other && list_all (accepts false (parser value)) (defaults_of form))) ≡ true → OfDefault P form
+default_is P (WithDefault text) value other so passes = so text (both (accepts false (parser value) text) true (both other _ passes).1).0
+default_is P _ value other so passes = tt
+
+some_request : (left : List Argument) (asks : Asks left) (rows : List Row) → AllByRecursion (IsRead Stands rows) left → IsSome (asked_in left asks rows)
 some_request [] request rows all = refl
 some_request (one ∷ rest) asks rows (is, others) =
-    subst IsSome (sym (ap (option_and_then (λ given. asked_in rest (asks given) rows)) is.value))
-    (some_request rest (asks (value_of one.value is.text)) rows others)
+    subst IsSome (sym (ap (option_and_then (λ given. asked_in rest (asks given) rows)) (is.value ∙ is.is.1)))
+    (some_request rest (asks is.is.0) rows others)
 
 module _ (arguments : List Argument) (looked_up : AreLookedUp arguments) where
   abbrev Kept : List Row → Type 0
-  Kept rows = AllByRecursion (IsReadable Accepts arguments) rows
+  Kept rows = AllByRecursion (IsReadable Stands arguments) rows
+
+  -- names that are added to a list stand for it
+  stands_with_more : (value : Value) → is_list value ≡ true → (texts : List Text) (text : Text)
+      → (given : Of value) × (read_of value (texts ++ text ∷ []) ≡ Some given)
+  stands_with_more FileNames list [] text = (text ∷ [], refl)
+  stands_with_more FileNames list (first ∷ texts) text = (first ∷ texts ++ text ∷ [], refl)
+  stands_with_more _ list texts text = absurd (true≢false (sym list))
 
   use_keeps : (at : Numbered) → IsLookedUp arguments at → Keeps false Kept (built_rule at)
   use_keeps at is values rows none kept = by values (sym (use_same false (built_rule at) values rows) ∙ ap is_none none)
     where
       by : (values : List Text) → use_passes false (built_rule at) values rows ≡ true → Kept (used (built_rule at) values rows)
       by [] passes = absurd (true≢false (sym passes))
-      by (text ∷ []) passes =
-          let fits = both (not (has_row at.1.id rows) || false) (accepts false (parser at.1.value) text && true) passes in
-          subst Kept (sym (used_behind at text rows (is_false (has_row at.1.id rows) (sym (or-false _) ∙ fits.0))))
-          (All-push (IsReadable Accepts arguments) rows _ kept
-          (readable Accepts (λ one text is. is) arguments at is text CommandLine (both (accepts false (parser at.1.value) text) true fits.1).0))
+      by (text ∷ []) passes = by_use (is_list at.1.value) refl passes
+        where
+          accepted : Bool
+          accepted = accepts false (parser at.1.value) text
+
+          is_new : accepted ≡ true → IsReadable Stands arguments (given_row at.1 (text ∷ []))
+          is_new fits = readable Stands arguments at is (text ∷ []) CommandLine (one_stands at.1 text fits)
+
+          with_more : is_list at.1.value ≡ true → (row : Row) → bytes_eq row.id at.1.id ≡ true → IsReadable Stands arguments row
+              → Kept (more_values CommandLine (text ∷ []) row)
+          with_more list row same old = (
+            record {
+              as_written = old.as_written;
+              says = subst (λ found. IfSome found (λ (other : Numbered). Stands other.1 (row.values ++ text ∷ [])))
+                  (sym (ap (λ id. find (λ (other : Numbered). bytes_eq other.1.id id) (numbered arguments 1)) ((bytes_eq-Decides row.id at.1.id).0 same)
+                  ∙ is.argument)) (stands_with_more at.1.value list row.values text);
+            },
+            tt,
+          )
+
+          by_use : (list : Bool) → is_list at.1.value ≡ list → action_passes (action_for list) false (built_rule at) (text ∷ []) rows ≡ true
+              → Kept (used (built_rule at) (text ∷ []) rows)
+          by_use true list passes =
+              subst (λ list. Kept (used_as (action_for list) at.1.id (reading_of (parser at.1.value)) (text ∷ []) rows)) (sym list)
+              (all_at_row (IsReadable Stands arguments) at.1.id (more_values CommandLine (text ∷ [])) (given_row at.1 (text ∷ []) ∷ []) rows (with_more list)
+              (is_new (both accepted true passes).0, tt) kept)
+          by_use false list passes =
+              let fits = both (not (has_row at.1.id rows) || false) (accepted && true) passes in
+              subst Kept (sym (used_behind at text rows (is_false (has_row at.1.id rows) (sym (or-false _) ∙ fits.0))))
+              (All-push (IsReadable Stands arguments) rows _ kept (is_new (both accepted true fits.1).0))
       by (text ∷ other ∷ more) passes =
           let few = both (nat_le (suc (suc (length more))) 1) _ (both (nat_le 1 (suc (suc (length more)))) _ passes).1 in
           absurd (omega (arith, leb-true (suc (suc (length more))) 1 few.0))
@@ -184,10 +219,10 @@ module _ (arguments : List Argument) (looked_up : AreLookedUp arguments) where
       → IsSome (asked_in arguments asks (rows_after (built_rules arguments) [] words))
   words_ask name asks words none =
       some_request arguments asks (finished (built_rules arguments) end)
-      (of_numbered (IsRead Accepts (finished (built_rules arguments) end)) arguments 1
-      (All-weaker (IsLookedUp arguments) (λ at. IsRead Accepts (finished (built_rules arguments) end) at.1)
-      (λ at is. is_read Accepts (λ one text is. is) arguments looked_up (settled (built_rules arguments) end).rows all checked at is
-      (λ none. default_is_accepted at.1.form at.1.value is.default))
+      (of_numbered (IsRead Stands (finished (built_rules arguments) end)) arguments 1
+      (All-weaker (IsLookedUp arguments) (λ at. IsRead Stands (finished (built_rules arguments) end) at.1)
+      (λ at is. is_read Stands arguments looked_up (settled (built_rules arguments) end).rows all checked at is
+      (λ none. default_is (λ text. Stands at.1 (text ∷ [])) at.1.form at.1.value _ (one_stands at.1) is.default))
       (numbered arguments 1) looked_up.each))
     where
       end : Held

@@ -36,8 +36,8 @@ argument_seen argument = record { id = argument.id.now; form = form_seen argumen
 abbrev pub shape_seen : Entry → Shape
 shape_seen entry = shape_of entry.name.now (map argument_seen entry.arguments.now)
 
-abbrev pub names_seen : Vec (Bor Text) → List Text
-names_seen names = map (λ name. name.now) names.items
+abbrev pub names_seen : {Z : Type 0} → Vec (Bor Text) Z → List Text
+names_seen {Z} names = map (λ name. name.now) names.items
 
 abbrev pub asked_by : CodeRequest → Request
 asked_by (CodeReport kind file limits) = Report kind file.now limits

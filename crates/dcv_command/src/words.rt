@@ -312,7 +312,7 @@ fn set_in<'a>(
     asked: SetQuestion,
     files: Option<Vec<&'a str>>,
 ) -> Option<Request<'a>>
-    requires files { option_map names_seen files.entry ≡ names_in_rows (codes "file") (rows_of (found_of matches.now)) }
+    requires files { option_map names_seen files ≡ names_in_rows (codes "file") (rows_of (found_of matches.now)) }
     ensures { option_map asked_by result ≡ asked_of (set asked) (rows_of (found_of matches.now)) }
 {
     let files = files?;
@@ -335,10 +335,13 @@ fn names_in<'a>(
 ) -> Result<Option<Vec<&'a str>>, AllocError>
     ensures { IfOk result (λ names. option_map names_seen names ≡ names_in_rows id.now (rows_of (found_of matches.now))) }
 {
-    match matches.get_strs(id) {
-        Some(names) if !names.is_empty() => Ok(Some(names.to_vec(alloc)?)),
-        _ => Ok(None),
+    let Some(names) = matches.get_strs(id) else {
+        return Ok(None);
+    };
+    if names.is_empty() {
+        return Ok(None);
     }
+    Ok(Some(names.to_vec(alloc)?))
 }
 
 // The value of an operand.

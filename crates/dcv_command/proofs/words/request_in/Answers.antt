@@ -1,5 +1,5 @@
 -- A request of the subcommand with this name and these matches is one of the whole.
-use Rattle.dcv_command.proofs.Common.{◌≡◌, ◌∙◌, List, Option, None, Some, option_map, Row, Text, found_of, request_in, request_of_subcommand}
+use Rattle.dcv_command.proofs.Common.{◌≡◌, ◌∙◌, IfOk-weaker, List, Option, None, Some, option_map, Row, Text, found_of, request_in, request_of_subcommand}
 use Rattle.std.specs.Prelude.{Box}
 use Rattle.std.specs.Box.{box_value}
 use Rattle.clap.specs.Words.{rows_of, subcommand_rows}
@@ -16,7 +16,7 @@ asks_of_whole (Some b) name rows named matched =
     let other : rows ≡ rows_of (found_of (out-SubCommand (box_value b)).matches) = cc in
     λ i. request_in (one i) (other i)
 
-pub returns : goal.returns
-returns c =
-    c.request_named.ensures ∙ asks_of_whole (out-ArgMatches c.args.matches.now).subcommand c.in_ok-name.name.now (rows_of (found_of c.in_ok-name.matches.now))
-    c.in_ok-name.ensures.name c.in_ok-name.ensures.rows
+pub returns-in-Some : goal.returns-in-Some
+returns-in-Some c =
+    IfOk-weaker c.request_named.result _ _ (λ request asked. asked ∙ asks_of_whole (out-ArgMatches c.args.matches.now).subcommand c.in-Some.name.now
+    (rows_of (found_of c.in-Some.matches.now)) c.in-Some.ensures.name c.in-Some.ensures.rows) c.request_named.ensures
