@@ -10,6 +10,7 @@ pub mod Endings
 pub mod EqualMeanings
 pub mod FormulaFiles
 pub mod Headline
+pub mod JoinedSets
 pub mod NeverStuck
 pub mod OneCertificate
 pub mod OneOutcome
@@ -33,6 +34,7 @@ pub mod StepCounts
 pub mod StuckReports
 pub mod Syntheses
 mod Texts
+pub mod TakenFiles
 pub mod ThreeEnds
 pub mod TraceEnds
 pub mod TwoFiles
