@@ -1,21 +1,22 @@
 -- The files of a set over the names of all of them: what the loops over them keep, and what is right at their end.
-use Rattle.dcv_cli.proofs.Common.{◌≡◌, ℕ, ◌+◌, ◌<◌, suc, true, false, List, [], ◌∷◌, ◌++◌, length, take, drop, map, get_or, Option, None, Some, arith, refl, sym, ap, ◌∙◌}
+use Rattle.dcv_cli.proofs.Common.{◌≡◌, ℕ, ◌+◌, ◌<◌, zero, suc, true, false, List, [], ◌∷◌, ◌++◌, length, take, drop, map, get_or, Option, None, Some, arith, refl, sym, ap, ◌∙◌}
 use Rattle.dcv_cli.proofs.Common.{subst, inl, inr, IsTrue, OnTrue, option_map, length-append, HaveSameBehaviours, Language, raw_accepts, RawValue, Limits, PlainFile, Outcome}
 use Rattle.dcv_cli.proofs.Common.{IsRead, Refusal, Which, Only, IsExplained, IsWithinBudget, NamesFirstOver, Budget, Memory, Formula, refused as refused_as, only, status_of, has_cause}
 use Rattle.dcv_cli.proofs.Common.{is_of_text, is_determined}
-use Rattle.std.specs.List.{All, Contains}
+use Rattle.std.specs.List.{All}
 use Rattle.std.specs.Option.{option_or}
 use Rattle.dcv_command.specs.declared.words.SetQuestion.{SetQuestion}
 use Rattle.dcv_command.specs.declared.words.SetQuestion.TheVariants.{Together, Follows}
 use Rattle.dcv_joint.specs.Faults.{most_names, too_many_at}
-use Rattle.dcv_joint.specs.Names.{HasAll, joint_from, with_new}
+use Rattle.dcv_joint.specs.Names.{HasAll, joint_from, joint_names, with_new}
 use Rattle.dcv_joint.specs.Laws.{JointHasEach}
 use Rattle.dcv_together.specs.Answers.{Answer, TooMany, Least, IsPossible, IsStuckOf, IsFollowingFirst}
 use Rattle.dcv_together.specs.Laws.{HaveSameBehavioursEach, PossibleOfSets, StuckOfSets, FollowingOfSets}
 use Rattle.dcv_cli.specs.FileSet.{AreBudgeted, FewFollowing, FewTuples, IsAnswered, IsDecidedFollowing, IsDecidedTogether, IsOfSet, Joined, ManyNames, OverLimits, OverSlots}
 use Rattle.dcv_cli.specs.FileSet.{TooManyFollowing, TooManyTuples, WithinLimits, extra_in, fits_over, joint_of, models_over, own_names, steps_over}
 use Rattle.dcv_cli.specs.Joined.{AreAutosOver, AreRead, AreReadAs, ExtraAt, FewSlots, FilesAreOver, IsExtraName, IsFirstRefused, IsJoinedSet, IsOverAt, IsRefusedOver, IsUnjoined}
-use Rattle.dcv_cli.specs.Joined.{IsWhole, ManySlots, NamesAreMany, NoMemory, NoMemoryForAutos, NoMemoryForNames, OverAt}
+use Rattle.dcv_cli.specs.Joined.{IsAutoOver, IsWhole, ManySlots, NamesAreMany, NoMemory, NoMemoryForAutos, NoMemoryForNames, OverAt}
+use Rattle.dcv_cli.specs.Joined.{ExtraName, IsJoint, IsRefusedName, NoMemoryForName}
 use Rattle.dcv_cli.specs.declared.file_set.JoinedSet.{JoinedSet}
 use Rattle.dcv_cli.specs.declared.formula_file.FormulaFile.{FormulaFile}
 use Rattle.dcv_cli.specs.declared.refused.Refused.{Refused}
@@ -23,6 +24,7 @@ use Rattle.dcv_cli.specs.declared.refused.Which.TheVariants.{Number}
 use Rattle.dcv_cli.specs.Refusal.{marked}
 use Rattle.dcv_cli.proofs.Outcomes.{over_is_of_text}
 use Rattle.dcv_cli.proofs.ThreeEnds.{marked_explains, marked_none, on_true_weaker}
+use Rattle.std.proofs.Common.{drop_of_length-le, ◌≤◌}
 use Rattle.std.proofs.lemmas.List.Elements.{All-cons, All-nil}
 
 -- ---- the file at a place
@@ -94,6 +96,21 @@ module _ {files : List PlainFile} {joint : List (List ℕ)} {place : ℕ} (so : 
   joining_stops byte extra =
       there ∙ ap (λ (found : Option ℕ). option_or (option_map (λ at. (suc place, at)) found) (extra_in (with_new joint (own_names at.file)) (suc (suc place)) (drop (suc place) files))) extra
 
+  pub joining_refused : (refusal : Refusal) → IsRefusedName joint at.file.variables refusal → IsExtraName files (marked (Number (suc place)) refusal)
+  joining_refused refusal (ExtraName byte extra e) =
+      subst (λ (refusal : Refusal). IsExtraName files (marked (Number (suc place)) refusal)) (sym e) (ExtraAt (suc place) byte (joining_stops byte extra) refl)
+  joining_refused refusal (NoMemoryForName e) = subst (λ (refusal : Refusal). IsExtraName files (marked (Number (suc place)) refusal)) (sym e) (NoMemoryForNames refl)
+
+pub joining_ends : (files : List PlainFile) (formulas : List FormulaFile) (joint : List (List ℕ)) (place : ℕ) → AreRead files formulas → length formulas ≤ place
+    → AreJoining files joint place → IsJoint files joint
+joining_ends files formulas joint place are past so =
+    let count = read_count files formulas are in
+    let none : drop place files ≡ [] = drop_of_length-le place files (omega (arith, past, count)) in
+    record {
+      fits = so.extra ∙ ap (extra_in joint (suc place)) none;
+      is = sym (so.names ∙ ap (λ files. joint_from joint (map own_names files)) none);
+    }
+
 -- ---- automata
 
 pub autos_begin : (limits : Limits) (joint : List (List ℕ)) (files : List PlainFile) → AreAutosOver limits joint (take 0 files) []
@@ -106,15 +123,15 @@ autos_push limits joint (first ∷ files) (one ∷ autos) file auto are is = (ar
 autos_push limits joint [] (one ∷ autos) file auto are is = absurd are
 autos_push limits joint (first ∷ files) [] file auto are is = absurd are
 
-contains_middle : (earlier others : List PlainFile) (file : PlainFile) → Contains (map own_names (earlier ++ file ∷ others)) (own_names file)
-contains_middle [] others file = inl refl
-contains_middle (first ∷ earlier) others file = inr (contains_middle earlier others file)
+own_of_all : (earlier others : List PlainFile) (file : PlainFile) → map own_names (earlier ++ file ∷ others) ≡ map own_names earlier ++ own_names file ∷ map own_names others
+own_of_all [] others file = refl
+own_of_all (first ∷ earlier) others file = ap (λ lists. own_names first ∷ lists) (own_of_all earlier others file)
 
 -- the joint names of the files have those of each file
 pub has_own : JointHasEach → (files earlier others : List PlainFile) (file : PlainFile) → files ≡ earlier ++ file ∷ others → HasAll (joint_of files) (own_names file)
 has_own each files earlier others file are =
-    each (map own_names files) (own_names file)
-    (subst (λ files. Contains (map own_names files) (own_names file)) (sym are) (contains_middle earlier others file))
+    subst (λ lists. HasAll (joint_names lists) (own_names file)) (sym (ap (map own_names) are ∙ own_of_all earlier others file))
+    (each (map own_names earlier) (map own_names others) (own_names file))
 
 -- what can be asked of the set
 pub whole : (limits : Limits) (joint : List (List ℕ)) (files : List PlainFile) (autos : List RawValue) → AreAutosOver limits joint files autos
@@ -198,12 +215,17 @@ unjoined question limits tuples files refused (FilesAreOver fits (OverAt first))
     (record {
       explained = marked_explains (IsOfSet question limits tuples files) (Number (suc (length first.earlier))) first.refusal
           (on_true_weaker (is_determined (status_of first.refusal)) right
+          (subst (λ n. IsExplained (AreBudgeted limits (joint_of files) 1 (IsAnswered question tuples (joint_of files) (map (models_over (joint_of files)) files))
+          (first.earlier ++ first.file ∷ first.others)) (Number n) first.refusal) one_more
           (over_later limits (joint_of files) (IsAnswered question tuples (joint_of files) (map (models_over (joint_of files)) files)) 1 first.earlier first.autos first.file
-          first.others first.refusal first.within first.is_refused));
+          first.others first.refusal first.within first.is_refused)));
       own = refused_is_of_text limits (joint_of files) first.file first.refusal first.is_refused;
       of_none = marked_none (Number (suc (length first.earlier))) first.refusal;
     })
   where
+    one_more : 1 + length first.earlier ≡ suc (length first.earlier)
+    one_more = omega arith
+
     right : AreBudgeted limits (joint_of files) 1 (IsAnswered question tuples (joint_of files) (map (models_over (joint_of files)) files)) (first.earlier ++ first.file ∷ first.others)
         (refused_as first.refusal (Number (suc (length first.earlier)))) → IsOfSet question limits tuples files (refused_as first.refusal (Number (suc (length first.earlier))))
     right budgeted =

@@ -22,6 +22,7 @@ pub mod Printed
 pub mod PrintedLengths
 pub mod Promises
 pub mod Replays
+pub mod SetTexts
 pub mod SomeAnswers
 pub mod SomeBounds
 pub mod SomeControllers

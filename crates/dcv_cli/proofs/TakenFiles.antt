@@ -3,11 +3,13 @@ use Rattle.dcv_cli.proofs.Common.{◌≡◌, ℕ, ◌+◌, ◌*◌, List, [], �
 use Rattle.dcv_cli.proofs.Common.{if◌then◌else◌, OnTrue, Disk, held_of, Asks, PlainFile, Refusal, Status, Which, Texts, ForHeld, IsHeldText, OfHeldText, OnHeld, Outcome}
 use Rattle.dcv_cli.proofs.Common.{refused, Outside, Stream, with_output, Answers, Performs, Takes, ending, is_input, IsRefused, IsFormulaFile, OnText, Refused, Read}
 use Rattle.dcv_cli.proofs.Common.{is_determined, status_of, only, IsExplained, IsRead, Appends, RisesIf, is_open, is_read, Only, take-length}
-use Rattle.std.specs.Prelude.{nat_eq, suc}
+use Rattle.std.specs.Prelude.{nat_eq}
+use Rattle.std.specs.Borrow.{Bor}
+use Rattle.dcv_cli.proofs.Common.{zero, suc, take, drop, map, get_or, ◌<◌, ◌≤◌, ◌-◌}
 use Rattle.std.proofs.Common.{length-append, append-nil}
 use Rattle.dcv_io.proofs.Asking.{asks_further, asks_in_turn, asks_none, asks_no_prefix}
 use Rattle.dcv_cli.specs.Comparison.{HasFormula}
-use Rattle.dcv_cli.specs.FileSet.{HaveFormulas, LeavesSet, OnFiles}
+use Rattle.dcv_cli.specs.FileSet.{HaveFormulas, IsOfSet, LeavesSet, OnFiles}
 use Rattle.dcv_cli.specs.Joined.{AreHeldTexts, AreReadAs, LeavesFiles, OnHeldFiles, StopsTaking, TakesAll, most_calls}
 use Rattle.dcv_cli.specs.Refusal.{marked, most_bytes}
 use Rattle.dcv_cli.specs.declared.formula_file.FormulaFile.{FormulaFile}
@@ -241,8 +243,9 @@ module _ {earlier : List (List ℕ)} {formulas : List FormulaFile} {old mid : Ou
 
   -- memory ran out between two files
   pub performs_memory : (others : List (List ℕ)) → StopsTaking (earlier ++ others) (only Memory) old mid
-  performs_memory others RightFor out =
+  performs_memory others asked limits tuples out =
       let names = earlier ++ others in
+      let RightFor = IsOfSet asked limits tuples in
       let count = length-append earlier others in
       let few = all.calls in
       record {
@@ -274,3 +277,29 @@ module _ {earlier : List (List ℕ)} {formulas : List FormulaFile} {old mid : Ou
         read = rw none.1 tt;
         held = all.held;
       }
+
+-- ---- the names, as the code has them
+
+pub split_names : (names : List (Bor (List ℕ))) (place : ℕ) (d : Bor (List ℕ)) → place < length names
+    → map (λ (name : Bor (List ℕ)). name.now) names
+    ≡ map (λ (name : Bor (List ℕ)). name.now) (take place names) ++ (get_or names place d).now ∷ map (λ (name : Bor (List ℕ)). name.now) (drop (suc place) names)
+split_names [] place d within = absurd (omega (arith, within))
+split_names (name ∷ names) zero d within = refl
+split_names (name ∷ names) (suc place) d within = ap (λ others. name.now ∷ others) (split_names names place d (omega (arith, within)))
+
+pub one_name_more : (names : List (Bor (List ℕ))) (place : ℕ) (d : Bor (List ℕ)) → place < length names
+    → map (λ (name : Bor (List ℕ)). name.now) (take (suc place) names) ≡ map (λ (name : Bor (List ℕ)). name.now) (take place names) ++ (get_or names place d).now ∷ []
+one_name_more [] place d within = absurd (omega (arith, within))
+one_name_more (name ∷ names) zero d within = refl
+one_name_more (name ∷ names) (suc place) d within = ap (λ others. name.now ∷ others) (one_name_more names place d (omega (arith, within)))
+
+reads_count : (texts : List (List ℕ)) (files : List PlainFile) (formulas : List FormulaFile) → AreReadAs texts files formulas → length formulas ≡ length texts
+reads_count [] [] [] are = refl
+reads_count (text ∷ texts) (file ∷ files) (formula ∷ formulas) are = ap suc (reads_count texts files formulas are.1)
+reads_count [] [] (formula ∷ formulas) are = absurd are
+reads_count [] (file ∷ files) formulas are = absurd are
+reads_count (text ∷ texts) [] formulas are = absurd are
+reads_count (text ∷ texts) (file ∷ files) [] are = absurd are
+
+pub takes_count : (names : List (List ℕ)) (formulas : List FormulaFile) (old new : Outside) → TakesAll names formulas old new → length formulas ≡ length names
+takes_count names formulas old new all = reads_count all.texts all.files formulas all.are ∙ beside_texts old.told names all.texts all.there

@@ -11,7 +11,7 @@
 --     LeavesSet names held ..             what was written where an input failed
 use Rattle.std.specs.Prelude.{◌≡◌, ◌+◌, ◌⊎◌, ℕ, suc, Bool, true, false, List, [], ◌∷◌, ◌++◌, Option, None, Some, length, map, codes}
 use Rattle.std.specs.Option.{option_or, option_map}
-use Rattle.dcv_automaton_text.specs.Spelled.{name_words, spelled_line}
+use Rattle.dcv_automaton_text.specs.Spelled.{name_words}
 use Rattle.dcv_command.specs.declared.words.SetQuestion.{SetQuestion}
 use Rattle.dcv_command.specs.declared.words.SetQuestion.TheVariants.{Together, Follows}
 use Rattle.dcv_core.specs.Steps.{PlainStep, steps_of, without_core}
@@ -20,6 +20,7 @@ use Rattle.dcv_joint.specs.Faults.{has_few_slots, most_names, too_many_at}
 use Rattle.dcv_joint.specs.Moved.{moved_core, places_of}
 use Rattle.dcv_joint.specs.Names.{joint_names, over, with_new}
 use Rattle.dcv_language.specs.VerdictText.{shown}
+use Rattle.dcv_print.specs.Pushed.{spaced}
 use Rattle.dcv_print.specs.Stuck.{stuck_text}
 use Rattle.dcv_scope.specs.CoreOf.{core_of_file}
 use Rattle.dcv_scope.specs.declared.faults.ScopeFault.TheVariants.{Slots}
@@ -88,7 +89,7 @@ AreBudgeted limits joint number RightFor (file ∷ files) outcome =
 -- ---- what is said
 
 abbrev pub names_line : List (List ℕ) → List ℕ
-names_line names = spelled_line (codes "variables" ∷ name_words names)
+names_line names = codes "variables" ++ (spaced (name_words names) ++ codes "\n")
 
 abbrev pub possible_text : Option Word → List ℕ
 possible_text None = line (codes "impossible")

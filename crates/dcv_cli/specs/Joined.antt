@@ -23,7 +23,8 @@ use Rattle.dcv_scope.specs.declared.faults.ScopeFault.TheVariants.{Slots}
 use Rattle.dcv_syntax.specs.declared.names.Name.{Name}
 use Rattle.dcv_cli.specs.Budget.{NamesFirstOver}
 use Rattle.dcv_cli.specs.Common.{Asks, Budget, Disk, Formula, IsWithinBudget, Limits, Only, Over, PlainFile, Refusal, Refused, Status, Which, held_of}
-use Rattle.dcv_cli.specs.FileSet.{LeavesSet, OnFiles, extra_in, fits_over, joint_of, models_over, own_names, steps_over}
+use Rattle.dcv_command.specs.declared.words.SetQuestion.{SetQuestion}
+use Rattle.dcv_cli.specs.FileSet.{IsOfSet, LeavesSet, OnFiles, extra_in, fits_over, joint_of, models_over, own_names, steps_over}
 use Rattle.dcv_cli.specs.Held.{ForHeld, IsHeldText}
 use Rattle.dcv_cli.specs.Outcome.{Outcome}
 use Rattle.dcv_cli.specs.Outside.{Outside, Stream, with_output}
@@ -68,8 +69,8 @@ abbrev pub LeavesFiles : List (List ℕ) → Outside → Outside → List ℕ �
 LeavesFiles names before after bytes = ForHeld before.told (λ held. LeavesSet names held before after bytes)
 
 abbrev pub StopsTaking : List (List ℕ) → Refused → Outside → Outside → Type 0
-StopsTaking names refused before after = (RightFor : List PlainFile → Outcome → Type 0) (out : Stream)
-    → Performs (OnHeldFiles names RightFor before.told) (LeavesFiles names) names (most_calls names) (Err refused) (with_output before out) (with_output after out)
+StopsTaking names refused before after = (asked : SetQuestion) (limits : Limits) (tuples : ℕ) (out : Stream)
+    → Performs (OnHeldFiles names (IsOfSet asked limits tuples) before.told) (LeavesFiles names) names (most_calls names) (Err refused) (with_output before out) (with_output after out)
 
 abbrev pub AreRead : List PlainFile → List FormulaFile → Type 0
 AreRead [] [] = Unit {0}

@@ -1,6 +1,7 @@
 // The commands over a set of formula files: whether their requirements go together, or whether the first follows from the others.
-ghost use Rattle.std.specs.Prelude.{◌≡◌, ◌<◌, ◌+◌, ◌++◌, ◌∷◌, ◌^◌, [], ℕ, suc, List, length, map, IfOk, IfErr, OnOk, OnErr};
-ghost use Rattle.dcv_automaton_text.specs.Spelled.{name_words, spaced};
+ghost use Rattle.std.specs.Prelude.{◌≡◌, ◌<◌, ◌+◌, ◌++◌, ◌∷◌, ◌^◌, [], ℕ, suc, List, codes, length, map, IfOk, IfErr, OnOk};
+ghost use Rattle.dcv_automaton_text.specs.Spelled.{name_words};
+ghost use Rattle.dcv_print.specs.Pushed.{spaced};
 ghost use Rattle.dcv_command.specs.Request.{Set as SetRequest};
 ghost use Rattle.dcv_dfa.specs.Raw.{raw_accepts};
 ghost use Rattle.dcv_io.specs.Putting.{Puts};
@@ -8,7 +9,7 @@ ghost use Rattle.dcv_print.specs.Verdict.{letters_of};
 ghost use Rattle.dcv_syntax.specs.Plain.{PlainFile};
 ghost use Rattle.dcv_together.specs.Answered.{answer_of};
 ghost use Rattle.dcv_together.specs.Answers.{Least, TooMany};
-ghost use Rattle.dcv_cli.specs.FileSet.{IsDecidedFollowing, IsDecidedTogether, IsOfSet, joint_of as joint_of_files, names_line};
+ghost use Rattle.dcv_cli.specs.FileSet.{IsDecidedFollowing, IsDecidedTogether, IsOfSet, follows_text, joint_of as joint_of_files, names_line, possible_text};
 ghost use Rattle.dcv_cli.specs.Joined.{AreAutosOver, AreRead, IsExtraName, IsJoinedSet, IsJoint, IsOverAt, IsUnjoined, IsWhole, StopsTaking, TakesAll, WereRead};
 ghost use Rattle.dcv_cli.specs.Outside.{of_files, outside, stream};
 ghost use Rattle.dcv_cli.specs.Performed.{Answers, PerformsRequest};
@@ -26,8 +27,10 @@ use dcv_dfa::Auto;
 use dcv_explore::Limits;
 use dcv_io::{Files, Sink, Target, put_pieces};
 use dcv_joint::Joint;
+use dcv_joint::laws::names_are_joint;
 use dcv_print::{put_stuck, put_word};
 use dcv_syntax::Text;
+use dcv_together::laws::answers_are_of_sets;
 use dcv_together::{Answer, follows, possible, stuck};
 use dcv_word::Word;
 use std::alloc::{AllocError, Global};
@@ -101,6 +104,7 @@ fn answer<O: Sink>(
     ensures { (files : List PlainFile) → AreRead files formulas.now
         → Answers (IsOfSet question.asked question.limits question.tuples files) result (stream O.Sink out.old) (stream O.Sink out.new) }
 {
+    answers_are_of_sets();
     let set = joined(alloc, formulas, question.limits)?;
     match question.asked {
         SetQuestion::Together => answer_together(alloc, &set, question.tuples, out),
@@ -144,6 +148,7 @@ fn autos_over(
     ensures autos { (files : List PlainFile) → AreRead files formulas.now → joint.now ≡ joint_of_files files → IfOk result (λ autos. AreAutosOver limits joint.now files autos.items) }
     ensures over { (files : List PlainFile) → AreRead files formulas.now → joint.now ≡ joint_of_files files → IfErr result (IsOverAt limits joint.now files) }
 {
+    names_are_joint();
     let mut autos = Vec::new(alloc);
     for (place, formula) in formulas.iter().enumerate() {
         match formula.build_over(alloc, joint, limits) {
@@ -156,8 +161,7 @@ fn autos_over(
 
 // Adds one at the end.
 fn push<T: Drop>(list: &mut Vec<T>, one: T) -> Result<(), AllocError>
-    ensures ok { OnOk result (list.new.items ≡ list.old.items ++ one.entry ∷ []) }
-    ensures err { OnErr result (list.new ≡ list.old) }
+    ensures { OnOk result (list.new.items ≡ list.old.items ++ one ∷ []) }
 {
     list.push(one)?;
     Ok(())
@@ -165,6 +169,7 @@ fn push<T: Drop>(list: &mut Vec<T>, one: T) -> Result<(), AllocError>
 
 // The file at this place.
 fn number(place: usize) -> Which
+    requires { place + 1 < 2 ^ 64 }
     ensures { result ≡ Number (suc place) }
 {
     Which::Number(place as u64 + 1)
@@ -247,8 +252,8 @@ fn decide_following<'a>(
 
 // The least word of an answer, unless too many tuples come before it.
 fn least_within(answer: Answer, tuples: u32) -> Result<Option<Word>, Refusal>
-    ensures least { IfOk result (λ least. answer_of answer.entry ≡ Least (letters_of least)) }
-    ensures many { IfErr result (λ refusal. (answer_of answer.entry ≡ TooMany) × (refusal ≡ Tuples tuples)) }
+    ensures least { IfOk result (λ least. answer_of answer ≡ Least (letters_of least)) }
+    ensures many { IfErr result (λ refusal. (answer_of answer ≡ TooMany) × (refusal ≡ Tuples tuples)) }
 {
     match answer {
         Answer::Least(word) => Ok(word),
@@ -263,10 +268,7 @@ impl Reply for Decided<'_> {
 
     fn put<T: Target>(&self, target: &mut T) {
         put_variables(target, self.joint.names());
-        if self.example.is_none() {
-            target.put(b"impossible\n");
-        }
-        put_word(target, b"possible", &self.example);
+        put_possible(target, &self.example);
         put_stuck(target, &self.stuck);
     }
 }
@@ -278,10 +280,7 @@ impl Reply for Following<'_> {
 
     fn put<T: Target>(&self, target: &mut T) {
         put_variables(target, self.joint.names());
-        if self.least.is_none() {
-            target.put(b"follows\n");
-        }
-        put_word(target, b"does not follow", &self.least);
+        put_follows(target, &self.least);
     }
 }
 
@@ -303,6 +302,32 @@ fn put_names<T: Target>(target: &mut T, names: &[Text])
         return;
     }
     for name in names {
-        put_pieces(target, &[b" ", name.as_bytes()]);
+        put_name(target, name.as_bytes());
+    }
+}
+
+fn put_name<T: Target>(target: &mut T, name: &[u8])
+    ensures { Puts (T.standing target.old) (T.standing target.new) (codes " " ++ name.now) }
+{
+    put_pieces(target, &[b" ", name]);
+}
+
+// The least behaviour of all files.
+fn put_possible<T: Target>(target: &mut T, example: &Option<Word>)
+    ensures { Puts (T.standing target.old) (T.standing target.new) (possible_text (letters_of example.now)) }
+{
+    match example {
+        None => target.put(b"impossible\n"),
+        Some(_) => put_word(target, b"possible", example),
+    }
+}
+
+// The least behaviour of the others that the first does not have.
+fn put_follows<T: Target>(target: &mut T, least: &Option<Word>)
+    ensures { Puts (T.standing target.old) (T.standing target.new) (follows_text (letters_of least.now)) }
+{
+    match least {
+        None => target.put(b"follows\n"),
+        Some(_) => put_word(target, b"does not follow", least),
     }
 }

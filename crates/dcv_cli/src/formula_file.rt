@@ -8,6 +8,8 @@ ghost use Rattle.dcv_core.specs.Steps.{steps_of};
 ghost use Rattle.dcv_language.specs.Language.{Language};
 ghost use Rattle.dcv_language.specs.Verdict.{IsVerdict};
 ghost use Rattle.dcv_build.specs.Given.{IsCore, IsCoreOf};
+ghost use Rattle.dcv_dfa.specs.Auto.{IsAuto};
+ghost use Rattle.dcv_dfa.specs.Raw.{IsRaw};
 ghost use Rattle.dcv_command.specs.Request.{AreInRange};
 ghost use Rattle.dcv_explore.specs.declared.explorer.Limits.{Limits as AnyLimits};
 ghost use Rattle.dcv_print.specs.Printed.{texts_of};
@@ -200,7 +202,9 @@ impl FormulaFile {
 
 // The automaton, of which it is then known what is true of every one.
 fn looked_at(auto: Auto) -> Auto
-    ensures { result ≡ auto.entry }
+    ensures same { result ≡ auto }
+    ensures auto { IsAuto result }
+    ensures raw { IsRaw result }
 {
     let _ = auto.states();
     auto

@@ -1,5 +1,5 @@
 -- What the reader and the builder of cores say is what is right for the text.
-use Rattle.dcv_cli.proofs.Common.{Vec, Global, ap, err_from_is_err_and, Name}
+use Rattle.dcv_cli.proofs.Common.{Vec, Global, ap, refl, err_from_is_err_and, Name}
 use Rattle.dcv_syntax.specs.Views.{plain_file}
 use Rattle.dcv_cli.proofs.Budgets.{is_core_of}
 use Rattle.dcv_cli.proofs.Outcomes.{explains_reading, explains_scope}
@@ -30,6 +30,7 @@ returns-clause-read c =
         names = ap (λ (names : Vec Name Global). names.items) c.names_of-names.ensures;
         declared = built.declared;
         steps = built.steps;
+        goal = refl;
         core = record { tree = core_of_file file; is = is_core_of file c.in_ok-core.core built.declared built.steps };
       },
     )
