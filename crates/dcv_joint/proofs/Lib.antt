@@ -1,5 +1,4 @@
 -- what the code does
-mod Adding
 mod MovedSteps
 -- the laws
 mod MovedWords

@@ -1,7 +1,7 @@
 -- The steps of a core over the slots that they go to: they are those of the moved tree, and what is asked of them step by step.
-use Rattle.std.proofs.Common.{◌≡◌, ℕ, zero, suc, ◌+◌, ◌-◌, ◌<◌, ◌≤◌, Bool, true, false, List, [], ◌∷◌, ◌++◌, Option, Some, length, map, drop, refl, sym, ap, subst, ◌∙◌, arith}
+use Rattle.std.proofs.Common.{◌≡◌, ℕ, zero, suc, ◌+◌, ◌-◌, ◌<◌, ◌≤◌, Bool, true, false, List, [], ◌∷◌, ◌++◌, Some, length, map, drop, refl, sym, ap, subst, ◌∙◌, arith}
 use Rattle.std.specs.Prelude.{nat_le, ◌&&◌}
-use Rattle.std.specs.List.{All, list_all, slice_get}
+use Rattle.std.specs.List.{All, slice_get}
 use Rattle.std.specs.Option.{option_map}
 use Rattle.std.proofs.lemmas.Bool.Decides.{nat_tests}
 use Rattle.std.proofs.lemmas.List.{map-append}
@@ -9,13 +9,12 @@ use Rattle.dcv_syntax.specs.declared.names.Span.{Span}
 use Rattle.dcv_core.specs.Core.{PlainTruth, truth_operand}
 use Rattle.dcv_core.specs.Core.{CoreTree, CoreAtom, CoreNot, CoreJoined, CoreChop, CoreStar, CoreExists}
 use Rattle.dcv_core.specs.Slots.{OpIsBelow}
-use Rattle.dcv_core.specs.Steps.{PlainOp, OpNot, OpJoined, OpChop, OpStar, OpExists, PlainStep, CoreStep, without_core, steps_before, steps_from, PlainCore, Pushed}
+use Rattle.dcv_core.specs.Steps.{PlainOp, OpNot, OpJoined, OpChop, OpStar, OpExists, PlainStep, CoreStep, without_core, steps_before, steps_from}
 use Rattle.dcv_core.specs.TruthViews.{truths_of}
 use Rattle.dcv_core.proofs.Chops.{and-parts}
-use Rattle.dcv_tracks.specs.ShiftSteps.{with_steps}
 use Rattle.dcv_tracks.proofs.PlacedSteps.{found, told, more_slots_of_op}
 use Rattle.dcv_joint.specs.Faults.{most_names, has_few_slots}
-use Rattle.dcv_joint.specs.Moved.{moved_slots, moved_truth, all_moved, moved_tree, moved_op, moved_step}
+use Rattle.dcv_joint.specs.Moved.{moved_slots, moved_truth, all_moved, moved_tree, moved_step}
 
 module _ (places : List ℕ) (width : ℕ) where
   pub truths_moved : (ps : List PlainTruth) → truths_of (map (moved_truth places width) ps) ≡ all_moved places width (truths_of ps)
@@ -86,18 +85,6 @@ module _ (places : List ℕ) (width : ℕ) where
       ∙ ap (map (moved_step places width)) of
       ∙ sym (moved_steps tree 0 declared (omega (arith, own)))
       ∙ ap (λ n. map without_core (steps_from 0 n (moved_tree places width tree))) all
-
-  -- ---- a step more
-
-  pub step_moved : (found : Option CoreStep) (op operator : PlainOp) (span : Span) (slots over number : ℕ) (old new : PlainCore)
-      → option_map (λ (s : CoreStep). s.op) found ≡ Some op → option_map (λ (s : CoreStep). s.span) found ≡ Some span → option_map (λ (s : CoreStep). s.slots) found ≡ Some slots
-      → operator ≡ moved_op places width op → over ≡ moved_slots places width slots → Pushed old operator span over new number
-      → (step : CoreStep) → found ≡ Some step → new ≡ with_steps old (old.steps ++ moved_step places width step ∷ [])
-  step_moved found op operator span slots over number old new op_of span_of slots_of operator_is over_is pushed step is =
-      let op_is : operator ≡ moved_op places width step.op = operator_is ∙ ap (moved_op places width) (told (λ (s : CoreStep). s.op) found step op is op_of) in
-      let span_is : span ≡ step.span = told (λ (s : CoreStep). s.span) found step span is span_of in
-      let slots_is : over ≡ moved_slots places width step.slots = over_is ∙ ap (moved_slots places width) (told (λ (s : CoreStep). s.slots) found step slots is slots_of) in
-      pushed.added ∙ (λ i. with_steps old (old.steps ++ record { op = op_is i; span = span_is i; slots = slots_is i } ∷ []))
 
   -- ---- how many slots the steps have
 

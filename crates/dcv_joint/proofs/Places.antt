@@ -1,18 +1,16 @@
 -- Where names stand, and what a word over the joint names is on the own ones.
 use Rattle.std.proofs.Common.{◌≡◌, ◌≢◌, ℕ, zero, suc, ◌+◌, ◌<◌, Bool, true, false, cond, not, List, [], ◌∷◌, length, map, get_or, refl, sym, ap, subst, ◌∙◌, arith, true≢false}
 use Rattle.std.specs.Prelude.{◌||◌, bytes_eq, slice_index_or}
-use Rattle.std.specs.List.{AllByRecursion, AllPairs}
+use Rattle.std.specs.List.{AllPairs}
 use Rattle.std.proofs.lemmas.List.{length-map}
 use Rattle.std.proofs.lemmas.Slice.Eq.{bytes_eq-Decides}
-use Rattle.dcv_core.specs.Core.{CoreTree}
-use Rattle.dcv_core.specs.Holds.{words_of}
 use Rattle.dcv_core.specs.Slots.{CoreIsBelow}
 use Rattle.dcv_language.proofs.Behaviours.{Widths, Widths-cons, Widths-head, Widths-tail}
 use Rattle.dcv_logic.specs.Track.{truth_at}
 use Rattle.dcv_scope.specs.Names.{stands_in}
-use Rattle.dcv_word.specs.Behaviour.{Word, IsBehaviour}
-use Rattle.dcv_joint.specs.Laws.{MovedMeansRestricted, RestrictedIsBehaviour, RestrictedToAll, EachIsRestricted}
-use Rattle.dcv_joint.specs.Moved.{places_of, moved_slot, moved_slots}
+use Rattle.dcv_word.specs.Behaviour.{Word}
+use Rattle.dcv_joint.specs.Laws.{MovedMeansRestricted, RestrictedIsBehaviour, RestrictedToAll, RestrictedInTurn, EachIsRestricted}
+use Rattle.dcv_joint.specs.Moved.{places_of, moved_slots}
 use Rattle.dcv_joint.specs.Names.{place_of, HasAll, truth_of, restricted}
 use Rattle.dcv_joint.proofs.MovedWords.{Agree, AllAgree, words_moved}
 
@@ -133,20 +131,23 @@ word_itself names (letter ∷ word) differ widths =
 pub restricted_to_all : RestrictedToAll
 restricted_to_all names word differ is = word_itself names word differ is.widths
 
--- ---- each behaviour over the own names
+-- ---- names in turn
 
-module _ (joint own : List (List ℕ)) where
-  letter_back : (letter : List Bool) (names : List (List ℕ)) → HasAll joint names → map (truth_of joint (map (truth_of own letter) joint)) names ≡ map (truth_of own letter) names
-  letter_back letter [] all = refl
-  letter_back letter (name ∷ names) all =
-      let one = truth_at_place name (truth_of own letter) joint all.0 in
-      let more = letter_back letter names all.1 in
-      λ i. one i ∷ more i
+letter_in_turn : (outer joint own : List (List ℕ)) (letter : List Bool) → HasAll joint own
+    → map (truth_of joint (map (truth_of outer letter) joint)) own ≡ map (truth_of outer letter) own
+letter_in_turn outer joint [] letter all = refl
+letter_in_turn outer joint (name ∷ own) letter all =
+    let one = truth_at_place name (truth_of outer letter) joint all.0 in
+    let more = letter_in_turn outer joint own letter all.1 in
+    λ i. one i ∷ more i
 
-  word_back : (word : Word) → HasAll joint own → restricted joint own (restricted own joint word) ≡ restricted own own word
-  word_back [] all = refl
-  word_back (letter ∷ word) all = let one = letter_back letter own all in let more = word_back word all in λ i. one i ∷ more i
+pub restricted_in_turn : RestrictedInTurn
+restricted_in_turn outer joint own [] all = refl
+restricted_in_turn outer joint own (letter ∷ word) all =
+    let one = letter_in_turn outer joint own letter all in
+    let more = restricted_in_turn outer joint own word all in
+    λ i. one i ∷ more i
 
 pub each_is_restricted : EachIsRestricted
 each_is_restricted joint own word differ all is =
-    (restricted own joint word, restricted_is_behaviour own joint word is, word_back joint own word all ∙ restricted_to_all own word differ is)
+    (restricted own joint word, restricted_is_behaviour own joint word is, restricted_in_turn own joint own word all ∙ restricted_to_all own word differ is)

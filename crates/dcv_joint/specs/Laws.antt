@@ -62,6 +62,10 @@ RestrictedIsBehaviour = (joint own : List (List ℕ)) (word : Word) → IsBehavi
 abbrev pub RestrictedToAll : Type 0
 RestrictedToAll = (names : List (List ℕ)) (word : Word) → AllPairs ◌≢◌ names → IsBehaviour (length names) word → restricted names names word ≡ word
 
+-- what a word is on some names, on fewer of these, it is on these at once
+abbrev pub RestrictedInTurn : Type 0
+RestrictedInTurn = (outer joint own : List (List ℕ)) (word : Word) → HasAll joint own → restricted joint own (restricted outer joint word) ≡ restricted outer own word
+
 -- each behaviour over the own names is what one over the joint names is on these
 abbrev pub EachIsRestricted : Type 0
 EachIsRestricted = (joint own : List (List ℕ)) (word : Word) → AllPairs ◌≢◌ own → HasAll joint own → IsBehaviour (length own) word

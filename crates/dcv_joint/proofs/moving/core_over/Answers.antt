@@ -1,4 +1,4 @@
-use Rattle.std.proofs.Common.{◌≡◌, ◌∙◌, ap}
+use Rattle.std.proofs.Common.{◌∙◌, ap}
 use Rattle.dcv_core.specs.Steps.{PlainCore}
 use Rattle.dcv_joint.proofs.MovedSteps.{core_moved}
 use Rattle.dcv_joint.proofs.moving.core_over.Goals as goal

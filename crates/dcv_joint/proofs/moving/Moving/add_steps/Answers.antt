@@ -1,16 +1,8 @@
-use Rattle.std.proofs.Common.{◌≡◌, ◌++◌, List, [], ◌∷◌, length, map, refl, sym, ap, ◌∙◌, arith, append-nil, length-append}
-use Rattle.std.proofs.lemmas.List.{at_drop_all}
-use Rattle.dcv_core.specs.Steps.{CoreStep, PlainCore}
+use Rattle.std.proofs.Common.{◌≡◌, ◌++◌, [], ◌∷◌, length, ap, ◌∙◌, arith, length-append}
+use Rattle.dcv_core.specs.Steps.{PlainCore}
 use Rattle.dcv_joint.specs.Moved.{moved_step}
 use Rattle.dcv_tracks.proofs.PlacedSteps.{found, next_placed}
 use Rattle.dcv_joint.proofs.moving.Moving.add_steps.Goals as goal
-
-pub loop-step-init : goal.loop-step-init
-loop-step-init c = record {
-  declared = refl;
-  size = ap length c.requires.none;
-  left = ap (λ (steps : List CoreStep). steps ++ map (moved_step c.args.self.now.places.now c.args.self.now.width) c.args.core.now.steps) c.requires.none;
-}
 
 pub loop-step-preserved : goal.loop-step-preserved
 loop-step-preserved c =
@@ -26,14 +18,3 @@ loop-step-preserved c =
       size = omega (arith, ap length steps, length-append before.steps (move here.step ∷ []), c.loop-step.invariant.size);
       left = next_placed move core.steps before.steps after.steps _ c.loop-step.step here.step here.left steps c.loop-step.invariant.left;
     }
-
-pub returns : goal.returns
-returns c =
-    let core = c.args.core.now in
-    let moved = c.loop-step.moved in
-    let move = moved_step c.args.self.now.places.now c.args.self.now.width in
-    let steps : moved.steps ≡ map move core.steps =
-    sym (append-nil moved.steps)
-    ∙ sym (at_drop_all (λ (left : List CoreStep). moved.steps ++ map move left) core.steps c.loop-step.step (omega arith))
-    ∙ c.loop-step.invariant.left in
-    λ i. record { declared = c.loop-step.invariant.declared i; steps = steps i }

@@ -1,6 +1,4 @@
-use Rattle.std.proofs.Common.{◌≡◌, ◌∙◌, sym, ap, arith}
-use Rattle.std.proofs.lemmas.List.{at_drop_all}
-use Rattle.dcv_joint.specs.Faults.{has_few_slots}
+use Rattle.std.proofs.Common.{arith}
 use Rattle.dcv_joint.proofs.MovedSteps.{few_on, few_ends}
 use Rattle.dcv_joint.proofs.moving.Moving.has_few_slots.Goals as goal
 
@@ -13,8 +11,3 @@ pub returns-then-moved_slots : goal.returns-then-moved_slots
 returns-then-moved_slots c =
     let moving = c.args.self.now in
     few_ends moving.places.now moving.width c.args.core.now.steps c.loop-step.step c.slots.result (omega arith) c.slots.ensures c.loop-step.invariant (omega (arith, c.moved_slots.ensures))
-
-pub returns : goal.returns
-returns c =
-    let moving = c.args.self.now in
-    sym (at_drop_all (has_few_slots moving.places.now moving.width) c.args.core.now.steps c.loop-step.step (omega arith)) ∙ c.loop-step.invariant
