@@ -105,7 +105,7 @@ pub joining_ends : (files : List PlainFile) (formulas : List FormulaFile) (joint
     → AreJoining files joint place → IsJoint files joint
 joining_ends files formulas joint place are past so =
     let count = read_count files formulas are in
-    let none : drop place files ≡ [] = drop_of_length-le place files (omega (arith, past, count)) in
+    let none : drop place files ≡ [] = drop_of_length-le files place (omega (arith, past, count)) in
     record {
       fits = so.extra ∙ ap (extra_in joint (suc place)) none;
       is = sym (so.names ∙ ap (λ files. joint_from joint (map own_names files)) none);

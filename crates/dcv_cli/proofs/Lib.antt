@@ -18,6 +18,7 @@ pub mod OneReplay
 pub mod OneRequest
 pub mod OneSynthesis
 pub mod Outcomes
+pub mod OverJoint
 pub mod Printed
 pub mod PrintedLengths
 pub mod Promises
