@@ -19,7 +19,7 @@ use Rattle.clap.proofs.WalkLemmas.{find-map}
 use Rattle.dcv_command.specs.Laws.{ListedWordsAreTaken}
 use Rattle.dcv_command.specs.Listed.{AreGiven, AskFor, CanBeGiven, IsChosen, IsFileName, Values, are_distinct, asked_with, if_operand, operand_words, option_words, words_of}
 use Rattle.dcv_command.proofs.Arguments.{AreLookedUp, IfList, IfOperand, IsLookedUp, ListsAreLast, Numbered, built_rule, built_rules, built_shape, help, is_operand, is_required}
-use Rattle.dcv_command.proofs.Arguments.{is_list, is_small, next_place, of_operand, of_option, numbered, of_numbered, operands, parser, to_numbered}
+use Rattle.dcv_command.proofs.Arguments.{is_list, is_small, next_place, of_option, numbered, of_numbered, operands, parser, to_numbered}
 use Rattle.dcv_command.proofs.Commands.{IsCommand, is_among}
 use Rattle.dcv_command.proofs.Lists.{all_both, any_is_found, if_found, none_passes}
 use Rattle.dcv_command.proofs.NumberTexts.{HasNoDash, decimal_is_one, has_no_dash}

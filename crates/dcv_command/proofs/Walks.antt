@@ -9,7 +9,6 @@ use Rattle.std.proofs.Common.{ap₂, min}
 use Rattle.std.specs.Prelude.{nat_lt}
 use Rattle.std.proofs.Math.Bool.{and-false}
 use Rattle.std.proofs.Math.Nat.{min-eq_left}
-use Rattle.std.proofs.lemmas.List.{map-append}
 use Rattle.clap.specs.Walk.{walked, is_append, is_pending, long_met, option_word, pushed, used, used_by_id}
 use Rattle.clap.specs.Faults.{action_fault, defaults_fault, walk_fault, flag_word_fault, long_fault, positional_fault, stray_fault, use_fault}
 use Rattle.clap.specs.Lexer.{usize_max}
