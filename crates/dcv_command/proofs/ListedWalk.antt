@@ -1,33 +1,23 @@
 -- The walk over listed words: each operand at its place, with all names of a list, and then each option by its name.
-use Rattle.dcv_command.proofs.Common.{◌≡◌, ◌<◌, refl, sym, ap, ◌∙◌, subst, Bool, true, false, ℕ, List, [], ◌∷◌, ◌++◌, Option, None, Some, arith}
-use Rattle.dcv_command.proofs.Common.{length, find, fold, map, not, ◌&&◌, ◌||◌, ◌+◌, if◌then◌else◌, is_some, option_and_then, option_map}
-use Rattle.dcv_command.proofs.Common.{option_map_or, AllByRecursion, list_all, list_any, bytes_eq, false_from_ne_true, bytes_eq-Decides, true≢false}
-use Rattle.dcv_command.proofs.Common.{Kinds, Row, Rule, Shape, Text, check_fault, check_kinds, or_else, default_passes, is_given, accepts}
-use Rattle.dcv_command.proofs.Common.{explicit_source, Held, Walk, idle, nothing_held, settled, walk_from, with_default, is_false, both, append-nil}
-use Rattle.dcv_command.proofs.Common.{IsOption, has_name, asked_in, asked_of, Argument, Asks, Command, Form, Operand, Required, WithDefault, Of}
-use Rattle.dcv_command.proofs.Common.{Value, FileName, FileNames, Number, value_of, Waiting, codes, has_row, option as option_of, positional}
-use Rattle.std.specs.Prelude.{Contains, IfSome}
-use Rattle.std.specs.Option.{option_or}
-use Rattle.std.proofs.ByRecursion.{All-append, All-get_or, All-map, All-weaker, all_kept_by, kept_by_passes}
-use Rattle.std.proofs.lemmas.Bool.{and_from, ltb-true, or_from, or_left, or_right, or_parts}
+use Rattle.dcv_command.proofs.Common.{◌≡◌, ◌<◌, refl, sym, ap, ◌∙◌, subst, Bool, true, false, ℕ, List, [], ◌∷◌, ◌++◌, Some, arith}
+use Rattle.dcv_command.proofs.Common.{length, map, not, ◌+◌, if◌then◌else◌}
+use Rattle.dcv_command.proofs.Common.{AllByRecursion, bytes_eq, false_from_ne_true, bytes_eq-Decides, true≢false}
+use Rattle.dcv_command.proofs.Common.{Row, Shape, Text, accepts}
+use Rattle.dcv_command.proofs.Common.{Held, Walk, idle, is_false, both, append-nil}
+use Rattle.dcv_command.proofs.Common.{IsOption, has_name, Argument, Form, Operand, Required, WithDefault, Of}
+use Rattle.dcv_command.proofs.Common.{Value, FileName, FileNames, Number, Waiting, codes, has_row, positional}
+use Rattle.std.proofs.ByRecursion.{All-weaker}
+use Rattle.std.proofs.lemmas.Bool.{ltb-true, or_from, or_parts}
 use Rattle.std.specs.Fmt.{decimal}
 use Rattle.std.proofs.lemmas.List.{append_assoc, map-append}
 use Rattle.std.proofs.lemmas.List.Folds.{list_any-append}
-use Rattle.clap.specs.Faults.{defaults_fault}
-use Rattle.clap.specs.declared.parser.matches.ValueSource.TheVariants.{CommandLine}
-use Rattle.clap.proofs.WalkLemmas.{find-map}
-use Rattle.dcv_command.specs.Laws.{ListedWordsAreTaken}
-use Rattle.dcv_command.specs.Listed.{AreGiven, AskFor, CanBeGiven, IsChosen, IsFileName, Values, are_distinct, asked_with, if_operand, operand_words, option_words, words_of}
-use Rattle.dcv_command.proofs.Arguments.{AreLookedUp, IfList, IfOperand, IsLookedUp, ListsAreLast, Numbered, built_rule, built_rules, built_shape, help, is_operand, is_required}
-use Rattle.dcv_command.proofs.Arguments.{is_list, is_small, next_place, of_option, numbered, of_numbered, operands, parser, to_numbered}
-use Rattle.dcv_command.proofs.Commands.{IsCommand, is_among}
-use Rattle.dcv_command.proofs.Lists.{all_both, any_is_found, if_found, none_passes}
+use Rattle.dcv_command.specs.Listed.{CanBeGiven, IsFileName, Values, are_distinct, if_operand, operand_words, option_words, words_of}
+use Rattle.dcv_command.proofs.Arguments.{IfList, IfOperand, IsLookedUp, ListsAreLast, Numbered, built_shape, is_operand}
+use Rattle.dcv_command.proofs.Arguments.{is_list, is_small, next_place, of_option, numbered, operands, parser}
 use Rattle.dcv_command.proofs.NumberTexts.{HasNoDash, decimal_is_one, has_no_dash}
-use Rattle.dcv_command.proofs.Parses.{defaults_agree, no_kind}
-use Rattle.dcv_command.proofs.Rows.{IsRead, IsReadable, OfDefault, default_of, found_after, given_row, is_read, one_is_read, read_of, readable, row_named}
-use Rattle.dcv_command.proofs.TakenWords.{default_is}
-use Rattle.dcv_command.proofs.Walks.{Goes, Holds, Runs, ask_for, at_end, flag_goes, given_by, going, has_given_row, holding, holds_more, holds_one, more}
-use Rattle.dcv_command.proofs.Walks.{next_to, nothing_holds, operand_goes, resting, value_goes, waiting_for}
+use Rattle.dcv_command.proofs.Rows.{given_row, one_is_read, read_of}
+use Rattle.dcv_command.proofs.Walks.{Goes, Holds, Runs, at_end, flag_goes, given_by, going, has_given_row, holding, holds_more, holds_one, more}
+use Rattle.dcv_command.proofs.Walks.{next_to, operand_goes, resting, value_goes}
 
 -- ---- lists of arguments with different names
 
