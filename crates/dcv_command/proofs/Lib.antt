@@ -7,6 +7,7 @@ pub mod Commands
 pub mod TakenWords
 pub mod NumberTexts
 pub mod Walks
+pub mod ListedWalk
 pub mod Listed
 pub mod Built
 pub mod Ranges

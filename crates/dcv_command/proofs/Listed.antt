@@ -1,47 +1,31 @@
--- Listed words are taken: the walk over a command's operands, each at its place, and then over its options, each by its name.
-use Rattle.dcv_command.proofs.Common.{◌≡◌, ◌<◌, refl, sym, ap, ◌∙◌, subst, Bool, true, false, ℕ, List, [], ◌∷◌, ◌++◌, Option, None, Some, arith}
-use Rattle.dcv_command.proofs.Common.{length, find, fold, map, not, ◌&&◌, ◌||◌, ◌+◌, if◌then◌else◌, is_some, option_and_then, option_map}
-use Rattle.dcv_command.proofs.Common.{option_map_or, AllByRecursion, list_all, list_any, bytes_eq, false_from_ne_true, bytes_eq-Decides, true≢false}
-use Rattle.dcv_command.proofs.Common.{Kinds, Row, Rule, Shape, Text, check_fault, check_kinds, or_else, default_passes, is_given, accepts}
-use Rattle.dcv_command.proofs.Common.{explicit_source, Held, Walk, idle, nothing_held, settled, walk_from, with_default, is_false, both, append-nil}
+-- Listed words are taken, and ask for what they say: after the walk over them each argument has its row, and nothing is left out.
+use Rattle.dcv_command.proofs.Common.{◌≡◌, refl, sym, ap, ◌∙◌, subst, Bool, true, false, ℕ, List, [], ◌∷◌, ◌++◌, Option, None, Some, arith}
+use Rattle.dcv_command.proofs.Common.{length, find, fold, map, not, ◌&&◌, ◌||◌, is_some, option_and_then, option_map}
+use Rattle.dcv_command.proofs.Common.{option_map_or, AllByRecursion, list_all, list_any, bytes_eq, bytes_eq-Decides, true≢false}
+use Rattle.dcv_command.proofs.Common.{Kinds, Row, Rule, Text, check_fault, check_kinds, or_else, default_passes, is_given}
+use Rattle.dcv_command.proofs.Common.{explicit_source, Held, nothing_held, settled, walk_from, with_default, is_false, both}
 use Rattle.dcv_command.proofs.Common.{IsOption, has_name, asked_in, asked_of, Argument, Asks, Command, Form, Operand, Required, WithDefault, Of}
-use Rattle.dcv_command.proofs.Common.{Value, FileName, FileNames, Number, value_of, Waiting, codes, has_row, option as option_of, positional}
+use Rattle.dcv_command.proofs.Common.{Value, value_of}
 use Rattle.std.specs.Prelude.{Contains, IfSome}
 use Rattle.std.specs.Option.{option_or}
 use Rattle.std.proofs.ByRecursion.{All-append, All-get_or, All-map, All-weaker, all_kept_by, kept_by_passes}
 use Rattle.std.proofs.lemmas.Bool.{and_from, ltb-true, or_from, or_left, or_right, or_parts}
-use Rattle.std.specs.Fmt.{decimal}
-use Rattle.std.proofs.lemmas.List.{append_assoc, map-append}
 use Rattle.std.proofs.lemmas.List.Folds.{list_any-append}
 use Rattle.clap.specs.Faults.{defaults_fault}
 use Rattle.clap.specs.declared.parser.matches.ValueSource.TheVariants.{CommandLine}
 use Rattle.clap.proofs.WalkLemmas.{find-map}
 use Rattle.dcv_command.specs.Laws.{ListedWordsAreTaken}
-use Rattle.dcv_command.specs.Listed.{AreGiven, AskFor, CanBeGiven, IsChosen, IsFileName, Values, are_distinct, asked_with, if_operand, operand_words, option_words, words_of}
-use Rattle.dcv_command.proofs.Arguments.{AreLookedUp, IfList, IfOperand, IsLookedUp, ListsAreLast, Numbered, built_rule, built_rules, built_shape, help, is_operand, is_required}
-use Rattle.dcv_command.proofs.Arguments.{is_list, is_small, next_place, of_operand, of_option, numbered, of_numbered, operands, parser, to_numbered}
+use Rattle.dcv_command.specs.Listed.{AreGiven, AskFor, CanBeGiven, IsChosen, Values, are_distinct, asked_with, operand_words, option_words, words_of}
+use Rattle.dcv_command.proofs.Arguments.{AreLookedUp, IfOperand, IsLookedUp, Numbered, built_rule, built_rules, built_shape, help, is_operand, is_required}
+use Rattle.dcv_command.proofs.Arguments.{numbered, of_numbered, operands, to_numbered}
 use Rattle.dcv_command.proofs.Commands.{IsCommand, is_among}
 use Rattle.dcv_command.proofs.Lists.{all_both, any_is_found, if_found, none_passes}
-use Rattle.dcv_command.proofs.NumberTexts.{HasNoDash, decimal_is_one, has_no_dash}
 use Rattle.dcv_command.proofs.Parses.{defaults_agree, no_kind}
-use Rattle.dcv_command.proofs.Rows.{IsRead, IsReadable, OfDefault, default_of, found_after, given_row, is_read, one_is_read, read_of, readable, row_named}
+use Rattle.dcv_command.proofs.Rows.{IsRead, IsReadable, OfDefault, default_of, found_after, is_read, one_is_read, read_of, readable, row_named}
 use Rattle.dcv_command.proofs.TakenWords.{default_is}
-use Rattle.dcv_command.proofs.Walks.{Goes, Holds, Runs, ask_for, at_end, flag_goes, given_by, going, has_given_row, holding, holds_more, holds_one, more}
-use Rattle.dcv_command.proofs.Walks.{next_to, nothing_holds, operand_goes, resting, value_goes, waiting_for}
-
--- ---- lists of arguments with different names
-
-distinct_before : (done rest : List Argument) (one : Argument) → are_distinct (done ++ one ∷ rest) ≡ true → has_name one.id done ≡ false
-distinct_before [] rest one apart = refl
-distinct_before (first ∷ done) rest one apart =
-    let parts = both (not (has_name first.id (done ++ one ∷ rest))) _ apart in
-    let other : bytes_eq one.id first.id ≡ false =
-    (or_parts (bytes_eq one.id first.id) _ (or_parts (has_name first.id done) _
-    (sym (list_any-append (λ (other : Argument). bytes_eq other.id first.id) done (one ∷ rest)) ∙ is_false _ parts.0)).1).0 in
-    or_from (bytes_eq first.id one.id) (has_name one.id done)
-    (false_from_ne_true (bytes_eq first.id one.id) (λ same. true≢false
-    (sym ((bytes_eq-Decides one.id first.id).1 (sym ((bytes_eq-Decides first.id one.id).0 same))) ∙ other)))
-    (distinct_before done rest one parts.1)
+use Rattle.dcv_command.proofs.Walks.{ask_for, given_by, going, has_given_row}
+use Rattle.dcv_command.proofs.Walks.{nothing_holds}
+use Rattle.dcv_command.proofs.ListedWalk.{Ended, IsGivenOption, IsItem, IsOperand, all, operands_end, words_are}
 
 distinct_append : (first others : List Argument) → are_distinct first ≡ true → are_distinct others ≡ true
     → AllByRecursion (λ one. has_name one.id others ≡ false) first
@@ -54,199 +38,9 @@ distinct_append (one ∷ first) others apart more_apart (unnamed, more_unnamed) 
     ∙ or_from (has_name one.id first) (has_name one.id others) (is_false _ parts.0) unnamed))
     (distinct_append first others parts.1 more_apart more_unnamed)
 
--- ---- words that are given
-
--- a word that the walk takes for this value
-abbrev Fits : Value → Text → Type 0
-Fits value word = HasNoDash word × (accepts false (parser value) word ≡ true)
-
--- one word, or one at least for a list
-abbrev AllFit : Value → Bool → List Text → Type 0
-AllFit value list [] = ⊥
-AllFit value true (word ∷ words) = Fits value word × AllByRecursion (Fits value) words
-AllFit value false (word ∷ []) = Fits value word
-AllFit value false (word ∷ other ∷ words) = ⊥
-
-words_fit : (value : Value) (given : Of value) → is_small value ≡ true → CanBeGiven value given → AllFit value (is_list value) (words_of value given)
-words_fit FileName name small is = (has_no_dash name is, refl)
-words_fit FileNames (name ∷ names) small (is, are) =
-    ((has_no_dash name is, refl), All-weaker IsFileName (Fits FileNames) (λ name is. (has_no_dash name is, refl)) names are)
-words_fit FileNames [] small none = absurd none
-words_fit (Number least most) number small is =
-    let text = decimal_is_one least most number (omega (arith, ltb-true most 18446744073709551616 small)) is in (text.no_dash, text.fits)
-
-words_read : (value : Value) (given : Of value) → is_small value ≡ true → CanBeGiven value given → read_of value (words_of value given) ≡ Some given
-words_read FileName name small is = refl
-words_read FileNames (name ∷ names) small are = refl
-words_read FileNames [] small none = absurd none
-words_read (Number least most) number small is =
-    let text = decimal_is_one least most number (omega (arith, ltb-true most 18446744073709551616 small)) is in
-    one_is_read (Number least most) (decimal number) text.fits ∙ ap Some text.value
-
-abbrev IsOperand : Form → Type 0
-IsOperand form = IsOption form → ⊥
-
--- what is known of an argument whose value is given
-record IsItem (arguments : List Argument) (values : Values) (at : Numbered) : Type 0 where
-  is : IsLookedUp arguments at
-  can : CanBeGiven at.1.value (values at.1)
-
 -- the texts stand for what is given for the argument
 abbrev Means : Values → Argument → List Text → Type 0
 Means values one texts = read_of one.value texts ≡ Some (values one)
-
-module _ (name : Text) (arguments given : List Argument) (values : Values) where
-  abbrev all : List Argument
-  all = operands arguments ++ given
-
-  abbrev shape : Shape
-  shape = built_shape name arguments
-
-  abbrev IsGivenOption : Argument → Type 0
-  IsGivenOption one = (place : ℕ) × (IsItem arguments values (place, one) × IsOption one.form)
-
-  record Ended (from : Walk) (words : List Text) : Type 0 where
-    held : Held
-    waiting : Waiting
-    place : ℕ
-    holds : Holds arguments held (map (given_by values) all)
-    runs : Runs shape (going held waiting place) from words
-
-  goes_on : (w next : Walk) (word : Text) (words : List Text) → Goes shape w word next → Ended next words → Ended w (word ∷ words)
-  goes_on w next word words goes ended =
-      record { held = ended.held; waiting = ended.waiting; place = ended.place; holds = ended.holds; runs = more goes ended.runs }
-
-  -- with the row of one argument more, what follows ends
-  abbrev Later : Argument → List Argument → Waiting → ℕ → List Text → List Text → Type 0
-  Later one done waiting place texts words =
-      (held : Held) → Holds arguments held (map (given_by values) done ++ given_row one texts ∷ []) → Ended (going held waiting place) words
-
-  -- the further names of a list
-  names_end : (at : Numbered) → IsLookedUp arguments at → IsOperand at.1.form → is_list at.1.value ≡ true → at.0 < 2000 → (done : List Argument)
-      → has_row at.1.id (map (given_by values) done) ≡ false → (words left texts : List Text) → AllByRecursion (Fits at.1.value) left → (held : Held)
-      → Holds arguments held (map (given_by values) done ++ given_row at.1 texts ∷ []) → Later at.1 done positional at.0 (texts ++ left) words
-      → Ended (going held positional at.0) (left ++ words)
-  names_end at is operand list few done none words [] texts fit held holds later =
-      later held (subst (λ texts. Holds arguments held (map (given_by values) done ++ given_row at.1 texts ∷ [])) (sym (append-nil texts)) holds)
-  names_end at is operand list few done none words (text ∷ left) texts ((no_dash, accepted), fit) held holds later =
-      let rows = map (given_by values) done ++ given_row at.1 texts ∷ [] in
-      goes_on (going held positional at.0) (going (holding rows at.1.id text) positional at.0) text (left ++ words)
-      (subst (λ list. Goes shape (going held positional at.0) text (going (holding rows at.1.id text) (resting list) (next_to list at.0))) list
-      (operand_goes arguments held rows holds at is text name no_dash positional refl operand few))
-      (names_end at is operand list few done none words left (texts ++ text ∷ []) fit (holding rows at.1.id text)
-      (holds_more arguments (map (given_by values) done) at texts held holds is list none text accepted)
-      (subst (λ texts. Later at.1 done positional at.0 texts words) (sym (append_assoc texts (text ∷ []) left)) later))
-
-  -- all words of an operand
-  operand_ends : (at : Numbered) → IsLookedUp arguments at → IsOperand at.1.form → at.0 < 2000 → (done : List Argument)
-      → has_row at.1.id (map (given_by values) done) ≡ false → (held : Held) → Holds arguments held (map (given_by values) done) → (words own : List Text)
-      → (list : Bool) → is_list at.1.value ≡ list → AllFit at.1.value list own → Later at.1 done (resting list) (next_to list at.0) own words
-      → Ended (going held idle at.0) (own ++ words)
-  operand_ends at is operand few done none held holds words [] list same fit later = absurd fit
-  operand_ends at is operand few done none held holds words (text ∷ other ∷ left) false same fit later = absurd fit
-  operand_ends at is operand few done none held holds words (text ∷ left) true same ((no_dash, accepted), fit) later =
-      let rows = map (given_by values) done in
-      goes_on (going held idle at.0) (going (holding rows at.1.id text) positional at.0) text (left ++ words)
-      (subst (λ list. Goes shape (going held idle at.0) text (going (holding rows at.1.id text) (resting list) (next_to list at.0))) same
-      (operand_goes arguments held rows holds at is text name no_dash idle refl operand few))
-      (names_end at is operand same few done none words left (text ∷ []) fit (holding rows at.1.id text)
-      (holds_one arguments held rows holds at is text none accepted) later)
-  operand_ends at is operand few done none held holds words (text ∷ []) false same (no_dash, accepted) later =
-      let rows = map (given_by values) done in
-      goes_on (going held idle at.0) (going (holding rows at.1.id text) idle (at.0 + 1)) text words
-      (subst (λ list. Goes shape (going held idle at.0) text (going (holding rows at.1.id text) (resting list) (next_to list at.0))) same
-      (operand_goes arguments held rows holds at is text name no_dash idle refl operand few))
-      (later (holding rows at.1.id text) (holds_one arguments held rows holds at is text none accepted))
-
-  -- an option with its word
-  option_ends : (at : Numbered) → IsLookedUp arguments at → IsOption at.1.form → (done : List Argument)
-      → has_row at.1.id (map (given_by values) done) ≡ false → (held : Held) (waiting : Waiting) (place : ℕ) → Holds arguments held (map (given_by values) done)
-      → (words own : List Text) → AllFit at.1.value false own → Later at.1 done idle place own words
-      → Ended (going held waiting place) ((codes "--" ++ at.1.id) ∷ own ++ words)
-  option_ends at is is_option done none held waiting place holds words (text ∷ []) (no_dash, accepted) later =
-      let rows = map (given_by values) done in
-      goes_on (going held waiting place) (going (waiting_for rows at.1.id) (option_of at.1.id) place) (codes "--" ++ at.1.id) (text ∷ words)
-      (flag_goes arguments held rows holds at is text name no_dash waiting place is_option)
-      (goes_on (going (waiting_for rows at.1.id) (option_of at.1.id) place) (going (holding rows at.1.id text) idle place) text words
-      (value_goes arguments held rows holds at is text name no_dash place)
-      (later (holding rows at.1.id text) (holds_one arguments held rows holds at is text none accepted)))
-  option_ends at is is_option done none held waiting place holds words [] fit later = absurd fit
-  option_ends at is is_option done none held waiting place holds words (text ∷ other ∷ own) fit later = absurd fit
-
-  none_left : (left : List Argument) → operands left ≡ [] → operand_words values left ≡ []
-  none_left [] none = refl
-  none_left (one ∷ left) none = by one.form (none_left left) none
-    where
-      by : (form : Form) → (operands left ≡ [] → operand_words values left ≡ []) → (if is_operand form then one ∷ operands left else operands left) ≡ []
-          → if_operand form (words_of one.value (values one)) (operand_words values left) ≡ []
-      by Operand later none = let wrong : one ∷ operands left ≡ [] = none in cc
-      by Required later none = later none
-      by (WithDefault text) later none = later none
-
-  module _ (apart : are_distinct all ≡ true) where
-    fresh : (one : Argument) (done rest : List Argument) → done ++ one ∷ rest ≡ all → has_row one.id (map (given_by values) done) ≡ false
-    fresh one done rest e = has_given_row values one.id done ∙ distinct_before done rest one (subst (λ all. are_distinct all ≡ true) (sym e) apart)
-
-    with_one : (one : Argument) (done : List Argument) (held : Held) → Holds arguments held (map (given_by values) done ++ given_by values one ∷ [])
-        → Holds arguments held (map (given_by values) (done ++ one ∷ []))
-    with_one one done held = subst (Holds arguments held) (sym (map-append (given_by values) done (one ∷ [])))
-
-    options_end : (left done : List Argument) → done ++ left ≡ all → (held : Held) (waiting : Waiting) (place : ℕ)
-        → Holds arguments held (map (given_by values) done) → AllByRecursion IsGivenOption left
-        → Ended (going held waiting place) (option_words values left)
-    options_end [] done e held waiting place holds each =
-        record {
-          held = held;
-          waiting = waiting;
-          place = place;
-          holds = subst (λ done. Holds arguments held (map (given_by values) done)) (sym (append-nil done) ∙ e) holds;
-          runs = at_end;
-        }
-    options_end (one ∷ rest) done e held waiting place holds ((number, (is, option)), each) =
-        option_ends (number, one) is.is option done (fresh one done rest e) held waiting place holds (option_words values rest)
-        (words_of one.value (values one))
-        (subst (λ list. AllFit one.value list (words_of one.value (values one))) (of_option _ one.form option is.is.single)
-        (words_fit one.value (values one) is.is.small is.can))
-        (λ held holds. options_end rest (done ++ one ∷ []) (append_assoc done (one ∷ []) rest ∙ e) held idle place (with_one one done held holds) each)
-
-    abbrev OperandsEnd : List Argument → Type 0
-    OperandsEnd left = (done : List Argument) (place : ℕ) → done ++ (operands left ++ given) ≡ all → (held : Held)
-        → Holds arguments held (map (given_by values) done)
-        → AllByRecursion (λ at. IsOperand at.1.form → IsItem arguments values at) (numbered left place) → place + length left < 2000
-        → Ended (going held idle place) (operand_words values left ++ option_words values given)
-
-    operands_end : AllByRecursion IsGivenOption given → (left : List Argument) → ListsAreLast left → OperandsEnd left
-    operands_end options [] last done place e held holds each few = options_end given done e held idle place holds options
-    operands_end options (one ∷ rest) (last, lasts) done place e held holds (can, each) few =
-        by one.form (λ operand. operand) last e each (operands_end options rest lasts)
-      where
-        own : List Text
-        own = words_of one.value (values one)
-
-        by : (form : Form) → (IsOperand form → IsOperand one.form) → IfOperand form (IfList (is_list one.value) (operands rest ≡ []))
-            → done ++ ((if is_operand form then one ∷ operands rest else operands rest) ++ given) ≡ all
-            → AllByRecursion (λ at. IsOperand at.1.form → IsItem arguments values at) (numbered rest (next_place form place)) → OperandsEnd rest
-            → Ended (going held idle place) (if_operand form own (operand_words values rest) ++ option_words values given)
-        by Operand operand last e each later =
-            let item = can (operand (λ option. option)) in
-            subst (Ended (going held idle place)) (sym (append_assoc own (operand_words values rest) (option_words values given)))
-            (operand_ends (place, one) item.is (operand (λ option. option)) (omega (arith, few)) done (fresh one done (operands rest ++ given) e) held holds
-            (operand_words values rest ++ option_words values given) own (is_list one.value) refl (words_fit one.value (values one) item.is.small item.can)
-            (after (is_list one.value) last))
-          where
-            there : done ++ one ∷ (operands rest ++ given) ≡ all
-            there = e
-
-            after : (list : Bool) → IfList list (operands rest ≡ [])
-                → Later one done (resting list) (next_to list place) own (operand_words values rest ++ option_words values given)
-            after false last held holds =
-                later (done ++ one ∷ []) (place + 1) (append_assoc done (one ∷ []) (operands rest ++ given) ∙ there) held
-                (with_one one done held holds) each (omega (arith, few))
-            after true none held holds =
-                subst (λ words. Ended (going held positional place) (words ++ option_words values given)) (sym (none_left rest none))
-                (options_end given (done ++ one ∷ []) (append_assoc done (one ∷ []) given
-                ∙ ap (λ left. done ++ one ∷ (left ++ given)) (sym none) ∙ there) held positional place (with_one one done held holds) options)
-        by _ operand last e each later = later done place e held holds each (omega (arith, few))
 
 -- ---- what is chosen
 
@@ -384,7 +178,7 @@ module _ (command : Command) (is : IsCommand command) (values : Values) (given :
       of_item : (one : Argument) (place : ℕ) → IsItem arguments values (place, one) → IsReadable (Means values) arguments (given_by values one)
       of_item one place item =
           readable (Means values) arguments (place, one) item.is (words_of one.value (values one)) CommandLine
-          (words_read one.value (values one) item.is.small item.can)
+          (words_are one.value (values one) item.is.small item.can).1
 
   -- what has been given is there
   given_last : (at : Numbered) → IsLookedUp arguments at → has_name at.1.id every ≡ true → is_given at.1.id at_last ≡ true

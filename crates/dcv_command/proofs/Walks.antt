@@ -9,7 +9,6 @@ use Rattle.std.proofs.Common.{ap₂, min}
 use Rattle.std.specs.Prelude.{nat_lt}
 use Rattle.std.proofs.Math.Bool.{and-false}
 use Rattle.std.proofs.Math.Nat.{min-eq_left}
-use Rattle.std.proofs.lemmas.List.{map-append}
 use Rattle.clap.specs.Walk.{walked, is_append, is_pending, long_met, option_word, pushed, used, used_by_id}
 use Rattle.clap.specs.Faults.{action_fault, defaults_fault, walk_fault, flag_word_fault, long_fault, positional_fault, stray_fault, use_fault}
 use Rattle.clap.specs.Lexer.{usize_max}
@@ -164,19 +163,19 @@ module _ (arguments : List Argument) (held : Held) (rows : List Row) (before : H
     shape = built_shape name arguments
 
     -- its operand, where no option waits
-    pub operand_goes : (waiting : Waiting) → ◌≡◌ {A = Held × Step} (plain_word rules waiting text held) (held, value) → (IsOption at.1.form → ⊥) → at.0 < 2000
-        → Goes shape (going held waiting at.0) text
-        (going (holding rows at.1.id text) (resting (is_list at.1.value)) (next_to (is_list at.1.value) at.0))
-    operand_goes waiting plain operand few =
+    pub operand_goes : (waiting : Waiting) → ◌≡◌ {A = Held × Step} (plain_word rules waiting text held) (held, value) → (IsOption at.1.form → ⊥) → at.0 < 2000 → (list : Bool)
+        → is_list at.1.value ≡ list → Goes shape (going held waiting at.0) text (going (holding rows at.1.id text) (resting list) (next_to list at.0))
+    operand_goes waiting plain operand few list same =
         let several = and-false (is_pending (built_rule at) held.pending) in
-        plain_goes shape held waiting at.0 text (end (is_list at.1.value)) no_dash
+        plain_goes shape held waiting at.0 text (end list) no_dash
         (ap (λ met. step_fault shape at.0 met.0 met.1) plain
         ∙ ap (λ found. option_map_or (λ rule. positional_fault rules false rule held) found (stray_fault shape)) (of_operand _ at.1.form operand is.by_index)
         ∙ ap (λ several. if several then [] else settle_fault rules false held) several ∙ before.no_fault)
         (ap (λ met. after_step rules text (going held waiting at.0) met.0 met.1) plain
         ∙ ap (λ found. to_positional rules found text (going held waiting at.0) held) (of_operand _ at.1.form operand is.by_index)
         ∙ ap (λ several. gone (pushed at.1.id text (if several then held else settled rules held)) (is_list at.1.value)) several
-        ∙ ap (λ there. gone (pushed at.1.id text there) (is_list at.1.value)) before.settles ∙ by (is_list at.1.value))
+        ∙ ap (λ there. gone (pushed at.1.id text there) (is_list at.1.value)) before.settles
+        ∙ ap (gone (holding rows at.1.id text)) same ∙ by list)
       where
         end : Bool → Walk
         end list = going (holding rows at.1.id text) (resting list) (next_to list at.0)

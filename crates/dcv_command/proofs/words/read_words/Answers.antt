@@ -13,11 +13,11 @@ use Rattle.dcv_command.proofs.words.read_words.Goals as goal
 pub unreachable-requires : goal.unreachable-requires
 unreachable-requires g c =
     matches_ask (map g.S.AsStr.text c.args.words.now) (subcommand_rows_of c.in_ok-matches.matches) c.in_ok-matches.ensures.no_fault c.in_ok-matches.ensures.subcommand
-    (ap (option_map asked_by) (sym c.in-None.is) ∙ c.in_ok-request_in.ensures)
+    (ap (option_map asked_by) (sym c.in-None.is) ∙ c.in_ok-request.ensures)
 
 pub returns-clause-limits : goal.returns-clause-limits
 returns-clause-limits g c = request_is_in_range (subcommand_rows_of c.in_ok-matches.matches) (asked_by c.in-Some.request)
-    (sym c.in_ok-request_in.ensures ∙ ap (option_map asked_by) c.in-Some.is)
+    (sym c.in_ok-request.ensures ∙ ap (option_map asked_by) c.in-Some.is)
 
 only_where : (P Q : Type 0) → (P → Q) → (fault : WordsFault) → IsUsageOnlyWhere P fault → IsUsageOnlyWhere Q fault
 only_where P Q so (Usage text) p = so p
