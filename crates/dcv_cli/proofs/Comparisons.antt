@@ -154,7 +154,7 @@ fulfils_both told told' first second text limits one outcome same there formula 
         rw there (ReadFile one formula (subst (λ held. OnHeld held second (λ text. OnText text Second (IsCompared limits one)) outcome) (sym same) second_right))
 
 -- what was read of a file that is held is told from before the other was opened
-reads_from : (told mid after : Option Disk) (name : List ℕ) (most : ℕ) → held_of mid ≡ held_of told → WhereTold (ReadsAtMost name most) mid after → WhereTold (ReadsAtMost name most) told after
+pub reads_from : (told mid after : Option Disk) (name : List ℕ) (most : ℕ) → held_of mid ≡ held_of told → WhereTold (ReadsAtMost name most) mid after → WhereTold (ReadsAtMost name most) told after
 reads_from None None after name most same read = read
 reads_from None (Some disk) after name most same read = let wrong : Some disk.held ≡ None = same in cc
 reads_from (Some disk) None after name most same read = let wrong : None ≡ Some disk.held = same in cc

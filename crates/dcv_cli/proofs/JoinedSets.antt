@@ -29,6 +29,9 @@ use Rattle.std.proofs.lemmas.List.Elements.{All-cons, All-nil}
 
 -- ---- the file at a place
 
+pub next : (place : ℕ) → suc place ≡ place + 1
+next place = omega arith
+
 pub record IsReadAt (files : List PlainFile) (place : ℕ) (formula : FormulaFile) : Type 0 where
   pub file : PlainFile
   pub text : List ℕ
@@ -105,7 +108,7 @@ pub joining_ends : (files : List PlainFile) (formulas : List FormulaFile) (joint
     → AreJoining files joint place → IsJoint files joint
 joining_ends files formulas joint place are past so =
     let count = read_count files formulas are in
-    let none : drop place files ≡ [] = drop_of_length-le files place (omega (arith, past, count)) in
+    let none : drop place files ≡ [] = drop_of_length-le files (omega (arith, past, count)) in
     record {
       fits = so.extra ∙ ap (extra_in joint (suc place)) none;
       is = sym (so.names ∙ ap (λ files. joint_from joint (map own_names files)) none);

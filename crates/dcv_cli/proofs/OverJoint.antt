@@ -40,7 +40,7 @@ module _ {text : List ℕ} {file : PlainFile} {formula : FormulaFile} (is : IsRe
     fits = sym fits_same ∙ few;
   }
 
-  pub slots_refused : (fault : JointFault) → IsFaultOfCore joint given formula.core.steps fault → IsSlotsRefusal joint file (refusal_of_joint fault formula.goal)
+  pub slots_refused : (fault : JointFault) → IsFaultOfCore (places_of joint (texts_of given)) (length joint) formula.core.steps fault → IsSlotsRefusal joint file (refusal_of_joint fault formula.goal)
   slots_refused (TooMany at) fault = absurd fault
   slots_refused ManySlotsFault fault = SlotsAre (sym fits_same ∙ fault) (ap (λ at. Formula (Scope (Slots at))) is.goal)
   slots_refused MemoryFault fault = NoMemoryForCore refl

@@ -3,7 +3,7 @@ use Rattle.dcv_cli.proofs.Common.{◌≡◌, ℕ, ◌+◌, List, [], ◌∷◌, 
 use Rattle.dcv_cli.proofs.Common.{if◌then◌else◌, OnTrue, Disk, held_of, Asks, PlainFile, Refusal, Status, Which, Texts, ForHeld, IsHeldText, OfHeldText, OnHeld, Outcome}
 use Rattle.dcv_cli.proofs.Common.{refused, Outside, Stream, with_output, Answers, Performs, Takes, ending, is_input, IsRefused, IsFormulaFile, OnText, Refused, Read}
 use Rattle.dcv_cli.proofs.Common.{is_determined, status_of, only, IsExplained, IsRead, Appends, RisesIf, is_open, is_read, Only, take-length}
-use Rattle.std.specs.Prelude.{nat_eq, ◌*◌}
+use Rattle.std.specs.Prelude.{◌*◌}
 use Rattle.std.specs.Borrow.{Bor}
 use Rattle.dcv_cli.proofs.Common.{zero, suc, take, drop, map, get_or, ◌<◌, ◌≤◌, ◌-◌}
 use Rattle.std.proofs.Common.{length-append, append-nil}
@@ -14,6 +14,7 @@ use Rattle.dcv_cli.specs.Joined.{AreHeldTexts, AreReadAs, LeavesFiles, OnHeldFil
 use Rattle.dcv_cli.specs.Refusal.{marked, most_bytes}
 use Rattle.dcv_cli.specs.declared.formula_file.FormulaFile.{FormulaFile}
 use Rattle.dcv_cli.specs.declared.refusal.Refusal.TheVariants.{Memory}
+use Rattle.dcv_cli.specs.declared.refused.Refused.{Refused as RefusedRun}
 use Rattle.dcv_cli.specs.declared.refused.Which.TheVariants.{Number}
 use Rattle.dcv_cli.proofs.Comparisons.{reads_from}
 use Rattle.dcv_cli.proofs.ThreeEnds.{ends_refused, input_of, marked_explains, marked_none, moved, no_cause, no_input_refusal, nothing_told, on_true, on_true_weaker, risen}
@@ -30,7 +31,8 @@ AreHeldFrom held time _ _ = ⊥
 -- the first text first
 abbrev in_turn : List (List ℕ) → Texts
 in_turn [] time name = None
-in_turn (text ∷ texts) time name = if nat_eq time 0 then Some text else in_turn texts (time - 1) name
+in_turn (text ∷ texts) zero name = Some text
+in_turn (text ∷ texts) (suc time) name = in_turn texts time name
 
 held_later : (held late : Texts) (time : ℕ) (names texts : List (List ℕ)) → ((t : ℕ) → held (suc t) ≡ late t) → AreHeldFrom late time names texts
     → AreHeldFrom held (suc time) names texts
@@ -203,7 +205,9 @@ module _ {earlier : List (List ℕ)} {formulas : List FormulaFile} {old mid : Ou
             (texts_push old.told earlier all.texts name found.text all.there (held_before old.told mid.told name found.text all.held found.there))
             (λ held there.
             let (first, last) = held_at_end held 0 earlier all.texts name found.text there beside in
-            on_refused RightFor held 0 [] earlier all.texts all.files formulas name found.text others refusal (length earlier) first all.are refl last found.is)
+            let same : 0 + length earlier ≡ length earlier = omega arith in
+            on_refused RightFor held 0 [] earlier all.texts all.files formulas name found.text others refusal (length earlier) first all.are (sym same)
+            (subst (λ t. held t name ≡ Some found.text) same last) found.is)
 
     leaves : {T : Type 0} (refusal : Refusal) (new : Outside) → Takes {T = T} most_bytes name (Err refusal) mid new → LeavesFiles names before (with_output new out) []
     leaves refusal new takes =
@@ -260,9 +264,9 @@ module _ {earlier : List (List ℕ)} {formulas : List FormulaFile} {old mid : Ou
       }
 
   -- after the last
-  pub performs_all : {RightFor : List PlainFile → Outcome → Type 0} {result : Result Status Refused} {out new : Stream} → Answers (RightFor all.files) result out new
+  pub performs_all : (RightFor : List PlainFile → Outcome → Type 0) {result : Result Status RefusedRun} {out new : Stream} → Answers (RightFor all.files) result out new
       → Performs (OnHeldFiles earlier RightFor old.told) (LeavesFiles earlier) earlier (most_calls earlier) result (with_output old out) (with_output mid new)
-  performs_all {RightFor = RightFor} {result = result} is =
+  performs_all RightFor {result = result} is =
       let none = no_input_refusal result is.no_input in
       let right : (outcome : Outcome) → RightFor all.files outcome → OnHeldFiles earlier RightFor old.told outcome = λ outcome right.
       for_texts old.told earlier all.texts (λ held. OnFiles held 0 [] earlier RightFor outcome) all.there

@@ -6,7 +6,7 @@ use Rattle.dcv_cli.specs.FileSet.{own_names}
 use Rattle.dcv_cli.specs.Joined.{AreAutosOver, IsOverAt, OverAt}
 use Rattle.dcv_cli.specs.Refusal.{marked}
 use Rattle.dcv_cli.specs.declared.refused.Which.TheVariants.{Number}
-use Rattle.dcv_cli.proofs.JoinedSets.{IsReadAt, autos_push, has_own, read_at, read_count}
+use Rattle.dcv_cli.proofs.JoinedSets.{IsReadAt, autos_push, has_own, next, read_at, read_count}
 use Rattle.dcv_cli.proofs.file_set.autos_over.Goals as goal
 
 pub build_over-requires : goal.build_over-requires
@@ -39,10 +39,11 @@ loop-place-preserved c files are same =
     let formula = c.index-formulas-place.result in
     let at = subst (IsReadAt files place) (sym c.index-formulas-place.is) (read_at files c.args.formulas.now place formula are c.loop-place-test.true) in
     let has = subst (λ joint. HasAll joint (own_names at.file)) (sym same) (has_own c.names_are_joint.ensures.each files (take place files) (drop (suc place) files) at.file at.front) in
-    subst (λ files. AreAutosOver c.args.limits c.args.joint.now files c.push.new.list.items) (sym at.further)
+    subst (λ n. AreAutosOver c.args.limits c.args.joint.now (take n files) c.push.new.list.items) (next place)
+    (subst (λ files. AreAutosOver c.args.limits c.args.joint.now files c.push.new.list.items) (sym at.further)
     (subst (AreAutosOver c.args.limits c.args.joint.now (take place files ++ at.file ∷ [])) (sym c.in_ok-push-in-Ok.ensures)
     (autos_push c.args.limits c.args.joint.now (take place files) c.loop-place.autos.items at.file c.in-Ok.auto (c.loop-place.invariant files are same)
-    (c.in-Ok.ensures.built at.text at.file at.is has)))
+    (c.in-Ok.ensures.built at.text at.file at.is has))))
 
 pub returns-clause-autos : goal.returns-clause-autos
 returns-clause-autos c files are same =

@@ -5,7 +5,7 @@ use Rattle.dcv_joint.specs.Names.{with_new}
 use Rattle.dcv_cli.specs.Joined.{IsExtraName, IsRefusedName}
 use Rattle.dcv_cli.specs.Refusal.{marked}
 use Rattle.dcv_cli.specs.declared.formula_file.FormulaFile.{FormulaFile}
-use Rattle.dcv_cli.proofs.JoinedSets.{AreJoining, IsReadAt, joining_begins, joining_ends, joining_goes_on, joining_refused, read_at}
+use Rattle.dcv_cli.proofs.JoinedSets.{AreJoining, IsReadAt, joining_begins, joining_ends, joining_goes_on, joining_refused, next, read_at}
 use Rattle.dcv_cli.proofs.file_set.joint_of.Goals as goal
 
 pub loop-place-init : goal.loop-place-init
@@ -26,8 +26,9 @@ loop-place-preserved c files are =
     let formula = c.index-formulas-place.result in
     let at = subst (IsReadAt files place) (sym c.index-formulas-place.is) (read_at files c.args.formulas.now place formula are c.loop-place-test.true) in
     let fit = subst (λ (names : List Name). too_many_at most_names c.loop-place.joint names ≡ None) at.is.names c.in_default.ensures.fit in
-    subst (λ joint. AreJoining files joint (suc place)) (sym (c.in_default.ensures.joined ∙ ap (λ (names : List Name). with_new c.loop-place.joint (texts_of names)) at.is.names))
-    (joining_goes_on (c.loop-place.invariant files are) at fit)
+    subst (AreJoining files c.join.new.joint) (next place)
+    (subst (λ joint. AreJoining files joint (suc place)) (sym (c.in_default.ensures.joined ∙ ap (λ (names : List Name). with_new c.loop-place.joint (texts_of names)) at.is.names))
+    (joining_goes_on (c.loop-place.invariant files are) at fit))
 
 pub returns-clause-joint : goal.returns-clause-joint
 returns-clause-joint c files are =

@@ -1,5 +1,6 @@
 -- The automaton over the joint names, or the first step that is over the limits.
-use Rattle.dcv_cli.proofs.Common.{core_of_file, subst, sym, IfOk, OnOk, err_from_is_err_and}
+use Rattle.dcv_cli.proofs.Common.{core_of_file, subst, sym, IfOk, OnOk, err_from_is_err_and, Result, RawValue, IsAutomatonOf, IsWithinBudget, words_of, steps_of}
+use Rattle.dcv_build.specs.declared.faults.BuildFault.{BuildFault}
 use Rattle.std.proofs.lemmas.Result.{IfErr-at_err}
 use Rattle.dcv_joint.specs.Moved.{moved_core}
 use Rattle.dcv_cli.specs.FileSet.{own_names}
@@ -19,7 +20,7 @@ returns-in-Ok-clause-built c text file is has =
     let tree = moved_core c.args.joint.now (own_names file) (core_of_file file) in
     rw c.looked_at.ensures.same
     (auto_over over c.args.limits c.moved_means_restricted.ensures.file has is.spelled.has_core c.in-Ok.auto (rw (sym c.looked_at.ensures.same) c.looked_at.ensures.auto)
-    (subst (λ result. IfOk result _) c.in-Ok.is (c.build.ensures.is tree over.is)) (subst (λ result. OnOk result _) c.in-Ok.is (c.build.ensures.within tree over.is)))
+    (subst (λ (result : Result RawValue BuildFault). IfOk result (IsAutomatonOf c.in_ok-core.core.declared (words_of tree))) c.in-Ok.is (c.build.ensures.is tree over.is)) (subst (λ (result : Result RawValue BuildFault). OnOk result (IsWithinBudget (steps_of c.in_ok-core.core.declared tree) c.args.limits)) c.in-Ok.is (c.build.ensures.within tree over.is)))
 
 pub refusal_of-requires : goal.refusal_of-requires
 refusal_of-requires c =
