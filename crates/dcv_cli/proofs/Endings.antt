@@ -1,10 +1,11 @@
 -- What is told on the messages.
 use Rattle.dcv_cli.proofs.Common.{ℕ, List, Option, Result, Ok, Err, length, sym, ◌∙◌, subst, arith, take-length, OnOk, OnErr, ⊤, true≢false}
 use Rattle.dcv_cli.proofs.Common.{RisesIf, Appends, AppendsStrictPrefix, strict_is_prefix, Failed, Tells}
-use Rattle.dcv_cli.proofs.Common.{◌≡◌, ◌++◌, codes, append_assoc, refl, line, message_of, Which, Only, First, Second}
+use Rattle.dcv_cli.proofs.Common.{◌≡◌, ◌++◌, codes, append_assoc, refl, line, message_of, Which, Only, First, Second, ap, decimal}
 use Rattle.std.specs.Prelude.{is_err}
 use Rattle.dcv_cli.specs.Refusal.{words_of, ended, end_of}
 use Rattle.dcv_cli.specs.declared.refused.Refused.{Refused}
+use Rattle.dcv_cli.specs.declared.refused.Which.TheVariants.{Number}
 
 -- a message that was written, or a front of it where a write failed
 pub tells : (message : List ℕ) (old new : Option (List ℕ)) (before after : ℕ) (result : Result ⊤ Failed) → OnOk result (Appends old new message)
@@ -22,3 +23,5 @@ ends_line refused = by refused.which (words_of refused.refusal)
     by Only words = refl
     by First words = sym (append_assoc words (codes " in first") (codes "\n"))
     by Second words = sym (append_assoc words (codes " in second") (codes "\n"))
+    by (Number number) words =
+        sym (append_assoc words (codes " in file " ++ decimal number) (codes "\n") ∙ ap (λ ending. words ++ ending) (append_assoc (codes " in file ") (decimal number) (codes "\n")))

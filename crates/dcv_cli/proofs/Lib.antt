@@ -14,8 +14,10 @@ pub mod JoinedSets
 pub mod NeverStuck
 pub mod OneCertificate
 pub mod OneOutcome
+pub mod OneOver
 pub mod OneReplay
 pub mod OneRequest
+pub mod OneSet
 pub mod OneSynthesis
 pub mod Outcomes
 pub mod OverJoint
@@ -30,6 +32,7 @@ pub mod SomeControllers
 pub mod SomeKinds
 pub mod SomeOutcome
 pub mod SomeReports
+pub mod SomeSet
 pub mod SomeSynthesised
 pub mod SomeTexts
 pub mod StepCounts

@@ -1,48 +1,40 @@
 -- One outcome at most is right.
-use Rattle.dcv_cli.proofs.Common.{◌≡◌, ◌≢◌, ◌⊎◌, inl, inr, refl, ℕ, List, length, Option, None, Some, sym, ap, ◌∙◌}
-use Rattle.dcv_cli.proofs.Common.{subst, arith, IsSomeAnd, slice_get, option_map, true≢false, PlainFile, models}
-use Rattle.dcv_cli.proofs.Common.{OneVerdict, SpellsOne, core_of_file, PlainStep, fault_of_file, ScopeFault}
-use Rattle.dcv_cli.proofs.Common.{Limits, TooManyStates, TooManyNodes, IsOver, WithinExcludesOver, Excess, States, Nodes, Over}
-use Rattle.dcv_cli.proofs.Common.{Refusal, Budget, Product, steps_of_file, kind_of}
-use Rattle.dcv_cli.proofs.Common.{limit_of, IsFirstOver, IsBudgeted, OverBudget, WithinBudget, OneAutomaton, Kind as ReportKind, IsReport}
+use Rattle.dcv_cli.proofs.Common.{◌≡◌, ◌≢◌, ◌⊎◌, inl, inr, refl, ℕ, suc, List, [], ◌∷◌, ◌++◌, length, Option, None, Some, sym, ap, ◌∙◌}
+use Rattle.dcv_cli.proofs.Common.{subst, arith, IsSomeAnd, append-nil, append_assoc, true≢false, PlainFile, models}
+use Rattle.dcv_cli.proofs.Common.{OneVerdict, SpellsOne, core_of_file, fault_of_file, ScopeFault}
+use Rattle.dcv_cli.proofs.Common.{Limits, WithinExcludesOver, Excess}
+use Rattle.dcv_cli.proofs.Common.{Refusal, Product, kind_of}
+use Rattle.dcv_cli.proofs.Common.{limit_of, IsBudgeted, OverBudget, WithinBudget, OneAutomaton, Kind as ReportKind, IsReport}
 use Rattle.dcv_cli.proofs.Common.{IsRefused, TooLong, Faulty, HasNoCore, IsFormulaFile, OnText, Refused, Read, Texts, Outcome, refused}
 use Rattle.dcv_cli.proofs.Common.{refusal_of_reading, refusal_of_scope, Which, Only, First, Second}
 use Rattle.dcv_cli.proofs.Common.{OneFile as OneAutomatonText, OneAnswer, IsCompared, Undeclared, Declared, IsDifference, OverProduct}
 use Rattle.dcv_cli.proofs.Common.{WithinProduct, compared, OnHeld, Request, Report, Certify, Convert, Implies, Stuck, Synth, Replay, Sweep}
+use Rattle.dcv_command.specs.Request.{Set}
+use Rattle.dcv_command.specs.declared.words.SetQuestion.{SetQuestion}
 use Rattle.dcv_cli.proofs.Common.{TooMany, Least, OneTraceVerdict, OneTextOfAnswers, summary_text, IsStuckReport, IsSwept, default_limits}
 use Rattle.dcv_cli.proofs.Common.{IsSynthesised, Undivided, Divided, IsSynthesisOf, texts_of, Fulfils, IsRight, Misused, Fulfilled}
 use Rattle.dcv_cli.proofs.Common.{status_of_verdict}
 use Rattle.dcv_sentence.specs.Faults.{FaultIsUnique}
 use Rattle.dcv_scope.specs.declared.faults.ScopeFault.TheVariants.{TooMany}
-use Rattle.dcv_explore.specs.Budget.{Kind as KindOfExcess}
 use Rattle.dcv_build.specs.Laws.{OneStepIsOver, OneListOfCounts}
 use Rattle.dcv_print.specs.Laws.{OneNode, OneUnit, OneTables}
 use Rattle.dcv_cli.proofs.Texts.{one_text}
 use Rattle.dcv_implies.specs.Comparison.{IsProductOver}
-use Rattle.dcv_cli.specs.Laws.{DifferInStep, DifferInProduct, DifferOnFile, DifferOnFiles, AgreeOn, InAll, ButForSuffixes, ButForTheLimit, Agree, Misusing, Asking, OneOutcome}
+use Rattle.dcv_together.specs.Laws.{OneLeastWithin, OneStuckOf}
+use Rattle.dcv_cli.specs.FileSet.{IsOfSet, OnFiles}
+use Rattle.dcv_cli.specs.Laws.{AreHeldFiles, DifferInStep, DifferInProduct, DifferOnFile, DifferOnFiles, AgreeOn, InAll, ButForSuffixes, ButForTheLimit, Agree, Misusing, Asking, OneOutcome}
 use Rattle.dcv_cli.proofs.FormulaFiles.{long_or_read, one_sentence, one_file, refused_or_read}
 use Rattle.dcv_cli.proofs.OneRequest.{one_request}
 use Rattle.dcv_cli.proofs.OneCertificate.{same_outcome, one_held_certificate}
 use Rattle.dcv_cli.proofs.ConvertedBack.{one_held_conversion}
+use Rattle.dcv_cli.proofs.OneOver.{both_kinds, one_over, same_or_other}
 use Rattle.dcv_cli.proofs.OneReplay.{AreSubsets, one_held_replay}
+use Rattle.dcv_cli.proofs.OneSet.{one_of_set}
+use Rattle.dcv_cli.specs.declared.refused.Which.TheVariants.{Number}
 use Rattle.dcv_implies.specs.Laws.{OneAnswer as OneComparison}
 use Rattle.dcv_stuck.proofs.Answers.{one_least_stuck}
 use Rattle.dcv_sweep.specs.Laws.{OneSummary}
 use Rattle.dcv_cli.specs.Stuck.{stuck_outcome}
-
-same_or_other : (one other : Excess) → (one ≡ other) ⊎ (one ≢ other)
-same_or_other States States = inl refl
-same_or_other Nodes Nodes = inl refl
-same_or_other _ _ = inr (λ e. cc)
-
--- what is so of one excess, and of another, is so of both kinds
-both_kinds : (P : KindOfExcess → Type 0) (one other : Excess) → P (kind_of one) → P (kind_of other) → one ≢ other → (kind : KindOfExcess) → P kind
-both_kinds P States States p q differ kind = absurd (differ refl)
-both_kinds P Nodes Nodes p q differ kind = absurd (differ refl)
-both_kinds P States Nodes p q differ TooManyStates = p
-both_kinds P States Nodes p q differ TooManyNodes = q
-both_kinds P Nodes States p q differ TooManyStates = q
-both_kinds P Nodes States p q differ TooManyNodes = p
 
 -- two outcomes that differ so for a formula file do for the text that is held
 on_file : (limits : Limits) (which : Which) (text : Option (List ℕ)) (bytes : List ℕ) (file : PlainFile) → text ≡ Some bytes → IsFormulaFile bytes file
@@ -58,7 +50,7 @@ on_files limits text another_text bytes others file another there other_there fo
 
 module _ (one_tree : SpellsOne) (one_fault : FaultIsUnique) (one_verdict : OneVerdict) (one_step : OneStepIsOver) (none_over : WithinExcludesOver) (one_list : OneListOfCounts) (one_automaton : OneAutomaton) (one_node : OneNode) (one_unit : OneUnit) (one_tables : OneTables)
     (one_automaton_text : OneAutomatonText) (one_answer : OneAnswer) (one_comparison : OneComparison) (subsets : AreSubsets) (one_trace_verdict : OneTraceVerdict)
-    (one_text_of_answers : OneTextOfAnswers) (one_summary : OneSummary)
+    (one_text_of_answers : OneTextOfAnswers) (one_summary : OneSummary) (one_least : OneLeastWithin) (one_stuck_of : OneStuckOf)
     (one_synthesis_of : (inputs : ℕ) (file : PlainFile) (a b : Outcome) → IsSynthesisOf inputs file a → IsSynthesisOf inputs file b → a ≡ b) where
   -- one file has one first fault
   one_scope_fault : (f g : PlainFile) (fault other : ScopeFault) → f ≡ g → fault_of_file f ≡ Some fault → fault_of_file g ≡ Some other
@@ -77,53 +69,7 @@ module _ (one_tree : SpellsOne) (one_fault : FaultIsUnique) (one_verdict : OneVe
   one_refusal text r s (HasNoCore f is fault has e) (HasNoCore g is' other has' e') =
       e ∙ one_scope_fault f g fault other (one_sentence one_tree text f g is is') has has' ∙ sym e'
 
-  -- one step is the first over the limits, and its part of the text begins at one place
-  one_first : (limits : Limits) (file : PlainFile) (over another : Over) → IsFirstOver limits file over → IsFirstOver limits file another → over.step ≡ another.step
-  one_first limits file over another is is' =
-      one_step (length file.variables) (core_of_file file) limits (kind_of over.excess) (kind_of another.excess) over.step another.step is.is_over is'.is_over
-
-  one_place : (limits : Limits) (file : PlainFile) (over another : Over) → IsFirstOver limits file over → IsFirstOver limits file another → over.at ≡ another.at
-  one_place limits file over another is is' =
-      let same : Some over.at ≡ Some another.at =
-      sym is.begins
-      ∙ ap (λ number. option_map (λ (step : PlainStep). step.span.start) (slice_get (steps_of_file file) number))
-      (one_first limits file over another is is') ∙ is'.begins in cc
-
-  -- what there is too much of decides what is said of it
-  one_excess : (limits : Limits) (file : PlainFile) (over another : Over) → IsFirstOver limits file over → IsFirstOver limits file another
-      → over.excess ≡ another.excess → over ≡ another
-  one_excess limits file over another is is' excess =
-      let step = one_first limits file over another is is' in
-      let limit : over.limit ≡ another.limit = is.limit ∙ ap (λ (e : Excess). limit_of e limits) excess ∙ sym is'.limit in
-      let place = one_place limits file over another is is' in
-      λ i. record { excess = excess i; limit = limit i; at = place i; step = step i }
-
-  -- and of two things of which there is too much, both kinds are
-  both_over : (limits : Limits) (file : PlainFile) (over another : Over) → IsFirstOver limits file over → IsFirstOver limits file another
-      → over.excess ≢ another.excess → (kind : KindOfExcess) → IsOver (steps_of_file file) limits kind over.step
-  both_over limits file over another is is' differ kind =
-      both_kinds (λ kind. IsOver (steps_of_file file) limits kind over.step) over.excess another.excess is.is_over
-      (subst (IsOver (steps_of_file file) limits (kind_of another.excess)) (sym (one_first limits file over another is is')) is'.is_over) differ kind
-
-  -- so two outcomes of one step are the same, or name one excess each
-  one_over : (limits : Limits) (which : Which) (file : PlainFile) (a b : Outcome) (over another : Over) → IsFirstOver limits file over → IsFirstOver limits file another
-      → a ≡ refused (Budget over) which → b ≡ refused (Budget another) which → (a ≡ b) ⊎ DifferInStep limits which file a b
-  one_over limits which file a b over another is is' e e' = elim (same_or_other over.excess another.excess) [
-    | inl same ↦ inl (e ∙ ap (λ (o : Over). refused (Budget o) which) (one_excess limits file over another is is' same) ∙ sym e')
-    | inr differ ↦ inr (record {
-      first = over;
-      second = another;
-      first_is = is;
-      second_is = is';
-      differ = differ;
-      step = one_first limits file over another is is';
-      both = both_over limits file over another is is' differ;
-      one_is = e;
-      other_is = e';
-    })
-  ]
-
-  -- and so are those of one product
+  -- two outcomes of one product are the same, or name one excess each
   one_difference : (limits : Limits) (one other : PlainFile) (a b : Outcome) → IsDifference limits one other a → IsDifference limits one other b
       → (a ≡ b) ⊎ DifferInProduct limits one other a b
   one_difference limits one other a b (OverProduct excess over e) (OverProduct excess' over' e') = elim (same_or_other excess excess') [
@@ -180,7 +126,7 @@ module _ (one_tree : SpellsOne) (one_fault : FaultIsUnique) (one_verdict : OneVe
         → ((a b : Outcome) → RightFor file a → RightFor file b → AgreeOn request held a b)
         → ((a b : Outcome) → DifferInStep limits which file a b → AgreeOn request held a b)
         → (a b : Outcome) → IsBudgeted limits which RightFor file a → IsBudgeted limits which RightFor file b → AgreeOn request held a b
-    one_budgeted limits which RightFor file one over_both a b (OverBudget over is e) (OverBudget another is' e') = elim (one_over limits which file a b over another is is' e e') [
+    one_budgeted limits which RightFor file one over_both a b (OverBudget over is e) (OverBudget another is' e') = elim (one_over one_step (length file.variables) (core_of_file file) limits which a b over another is is' e e') [
       | inl same ↦ InAll same
       | inr differ ↦ over_both a b differ
     ]
@@ -189,6 +135,20 @@ module _ (one_tree : SpellsOne) (one_fault : FaultIsUnique) (one_verdict : OneVe
     one_budgeted limits which RightFor file one over_both a b (WithinBudget within right) (OverBudget over is e) =
         absurd (none_over (length file.variables) (core_of_file file) limits (kind_of over.excess) over.step within is.is_over)
     one_budgeted limits which RightFor file one over_both a b (WithinBudget within right) (WithinBudget within' right') = one a b right right'
+
+    -- of files that are held, each at its time
+    one_on_files : (names : List (List ℕ)) (time : ℕ) (read : List PlainFile) (RightFor : List PlainFile → Outcome → Type 0)
+        → ((files : List PlainFile) → AreHeldFiles held time names files → (a b : Outcome) → RightFor (read ++ files) a → RightFor (read ++ files) b → AgreeOn request held a b)
+        → (a b : Outcome) → OnFiles held time read names RightFor a → OnFiles held time read names RightFor b → AgreeOn request held a b
+    one_on_files [] time read RightFor one a b p q =
+        let all = sym (append-nil read) in one [] tt a b (subst (λ files. RightFor files a) all p) (subst (λ files. RightFor files b) all q)
+    one_on_files (name ∷ names) time read RightFor one a b p q =
+        one_on_file (held time name) (Number (suc time)) (λ file. OnFiles held (suc time) (read ++ file ∷ []) names RightFor)
+        (λ bytes file there formula. one_on_files names (suc time) (read ++ file ∷ []) RightFor
+        (λ files are a b p q.
+        let all = append_assoc read (file ∷ []) files in
+        let here = subst (λ (found : Option (List ℕ)). IsSomeAnd found (λ bytes. IsFormulaFile bytes file)) (sym there) formula in
+        one (file ∷ files) (here, are) a b (subst (λ files. RightFor files a) all p) (subst (λ files. RightFor files b) all q))) a b p q
 
     -- of a request with one formula file, whose steps are counted first
     one_of_file : (name : List ℕ) (limits : Limits) (RightFor : PlainFile → Outcome → Type 0)
@@ -241,6 +201,13 @@ module _ (one_tree : SpellsOne) (one_fault : FaultIsUnique) (one_verdict : OneVe
         (λ a b differ. ButForTheLimit (inr (inl (on_file limits Second (held 1 second) others other other_there other_formula a b differ)))) a b p q)
         (λ a b differ. ButForTheLimit (inl (on_file limits First (held 0 first) bytes one there formula a b differ))) a b is is'
 
+  one_of_files : (question : SetQuestion) (names : List (List ℕ)) (limits : Limits) (tuples : ℕ) (held : Texts) (files : List PlainFile) → AreHeldFiles held 0 names files
+      → (a b : Outcome) → IsOfSet question limits tuples files a → IsOfSet question limits tuples files b → AgreeOn (Set question names limits tuples) held a b
+  one_of_files question names limits tuples held files are a b p q = elim (one_of_set one_least one_stuck_of one_step none_over question limits tuples files a b p q) [
+    | inl same ↦ InAll same
+    | inr differ ↦ ButForTheLimit (files, are, differ)
+  ]
+
   one_fulfilled : (request : Request) (held : Texts) (a b : Outcome) → Fulfils request held a → Fulfils request held b → AgreeOn request held a b
   one_fulfilled (Report kind name limits) held a b p q =
       one_of_file (Report kind name limits) held name limits (IsReport kind limits) (λ a b differ. ButForTheLimit differ) (one_report kind name limits held) a b p q
@@ -257,6 +224,8 @@ module _ (one_tree : SpellsOne) (one_fault : FaultIsUnique) (one_verdict : OneVe
   one_fulfilled (Replay subset observer trace) held a b p q =
       InAll (one_held_replay subsets one_trace_verdict one_text_of_answers subset (held 0 observer) (held 1 trace) a b p q)
   one_fulfilled (Sweep seed count) held a b p q = InAll (one_swept seed count a b p q)
+  one_fulfilled (Set question names limits tuples) held a b p q =
+      one_on_files (Set question names limits tuples) held names 0 [] (IsOfSet question limits tuples) (one_of_files question names limits tuples held) a b p q
 
   pub one_outcome : OneOutcome
   one_outcome words held one other is is' = by is is'

@@ -1,9 +1,10 @@
 -- Some outcome is right for all words, where the files that they name are held.
 --     SomeReport         each formula file has a right report of each kind, or a step that is the first over the limits
 --     SomeSynthesis      each formula file has a right answer where a controller is asked for
---     some_outcome       with both, all words have a right outcome
-use Rattle.dcv_cli.proofs.Common.{◌≡◌, ◌⊎◌, inl, inr, ℕ, ◌≤◌, List, [], ◌∷◌, length, Option, None, Some, refl, sym}
-use Rattle.dcv_cli.proofs.Common.{subst, ◌∙◌, IsSomeAnd, true≢false, PlainFile, AutomatonFile, HasForm}
+--     SomeSet            files have a right answer where something is asked of them together
+--     some_outcome       with these, all words have a right outcome
+use Rattle.dcv_cli.proofs.Common.{◌≡◌, ◌⊎◌, inl, inr, ℕ, suc, ◌<◌, ◌≤◌, List, [], ◌∷◌, ◌++◌, length, Option, None, Some, refl, sym}
+use Rattle.dcv_cli.proofs.Common.{ap, append-nil, append_assoc, subst, ◌∙◌, IsSomeAnd, true≢false, PlainFile, AutomatonFile, HasForm}
 use Rattle.dcv_cli.proofs.Common.{MachineAcceptsStep, HasGoodWords, IsCertified, Answer, Minimal, Access, Pair, NoneWhereIncluded}
 use Rattle.dcv_cli.proofs.Common.{ComplementIsCanonical, line, WordLaws, Subset, Version, SomeVerdict, GoodLinesAreAnswered, fault_of_file}
 use Rattle.dcv_cli.proofs.Common.{WordsAreModels, ScopeFault, Refusal, Formula, Syntax, Usage, Done, IsRefusedAutomaton, HasNoForm}
@@ -28,12 +29,16 @@ use Rattle.dcv_cli.specs.declared.refusal.Refusal.TheVariants.{Automaton as Auto
 use Rattle.dcv_cli.specs.declared.faults.FormulaFault.TheVariants.{Length}
 use Rattle.dcv_cli.specs.declared.faults.AutomatonFault.TheVariants.{Length as AutomatonLength, Table}
 use Rattle.dcv_cli.specs.AutomatonFile.{TooLong as TooLongAutomaton, Refused as RefusedAutomaton, Read as ReadAutomaton}
+use Rattle.dcv_cli.specs.FileSet.{IsOfSet, OnFiles}
 use Rattle.dcv_cli.specs.Laws.{AreHeld, SomeOutcome}
+use Rattle.dcv_cli.specs.declared.refused.Which.TheVariants.{Number}
+use Rattle.dcv_cli.proofs.SomeSet.{HaveCores}
 use Rattle.clap.specs.Words.{fault_of, subcommand_of, Kinds}
 use Rattle.dcv_command.specs.Laws.{TakenWordsAsk}
 use Rattle.dcv_command.specs.Program.{program}
-use Rattle.std.specs.List.{All}
-use Rattle.dcv_command.specs.Request.{AreInputsInRange, IsInRange, files_of}
+use Rattle.std.specs.List.{All, AllByRecursion}
+use Rattle.dcv_command.specs.Request.{AreInputsInRange, IsInRange, Set, files_of}
+use Rattle.dcv_command.specs.declared.words.SetQuestion.{SetQuestion}
 use Rattle.dcv_command.proofs.Ranges.{request_is_in_range}
 use Rattle.dcv_automaton_lines.proofs.ReadForms.{some_form}
 use Rattle.dcv_cli.proofs.OneReplay.{some_replay}
@@ -132,6 +137,11 @@ abbrev pub SomeSynthesis : Type 0
 SomeSynthesis = (inputs : ℕ) (limits : Limits) → AreInputsInRange inputs limits → (text : List ℕ) (file : PlainFile) → IsFormulaFile text file
     → (outcome : Outcome) × IsSynthesised inputs limits file outcome
 
+-- and files without a fault have one where something is asked of them together
+abbrev pub SomeSet : Type 0
+SomeSet = (question : SetQuestion) (limits : Limits) (tuples : ℕ) (files : List PlainFile) → 0 < length files → HaveCores files
+    → (outcome : Outcome) × IsOfSet question limits tuples files outcome
+
 -- what is right for the text that is held is right for its name
 held_under : (OfText : List ℕ → Outcome → Type 0) (held : List ℕ → Option (List ℕ)) (name : List ℕ) → IsSome (held name)
     → ((text : List ℕ) → (outcome : Outcome) × OfText text outcome) → (outcome : Outcome) × OnHeld held name OfText outcome
@@ -141,7 +151,7 @@ held_under OfText held name there right = by (held name) there
     by None some = absurd (true≢false (sym some))
     by (Some text) some = right text
 
-module _ (some_reading : SomeReading) (reports : SomeReport) (syntheses : SomeSynthesis) (laws : WordLaws) (accept : MachineAcceptsStep)
+module _ (some_reading : SomeReading) (reports : SomeReport) (syntheses : SomeSynthesis) (sets : SomeSet) (laws : WordLaws) (accept : MachineAcceptsStep)
     (outside_is : ComplementIsCanonical) (models_are : WordsAreModels) (none_included : NoneWhereIncluded) (fewest : MinimalShowsFewestStates) (reached : MinimalReachesEachState)
     (words_ask : TakenWordsAsk) (some_node : SomeNode) (some_unit : SomeUnit) (some_verdict : SomeVerdict) (answered : GoodLinesAreAnswered) (goes_on : NeverStuckGoesOn) where
   -- ---- a formula file
@@ -153,6 +163,21 @@ module _ (some_reading : SomeReading) (reports : SomeReport) (syntheses : SomeSy
     | inl refusal ↦ (refused refusal.0 which, Refused refusal.0 refusal.1 refl)
     | inr read ↦ let found = right read.0 read.1 in (found.0, Read read.0 read.1 found.1)
   ]
+
+  -- what is right for files without a fault is right for the names under which they are held, each at its time
+  files_held : (held : Texts) (RightFor : List PlainFile → Outcome → Type 0) (names : List (List ℕ)) (time : ℕ) (read : List PlainFile)
+      → ((at : ℕ) → AllByRecursion (λ name. IsSome (held at name)) names)
+      → ((files : List PlainFile) → length files ≡ length names → HaveCores files → (outcome : Outcome) × RightFor (read ++ files) outcome)
+      → (outcome : Outcome) × OnFiles held time read names RightFor outcome
+  files_held held RightFor [] time read there right =
+      let found = right [] refl tt in (found.0, subst (λ files. RightFor files found.0) (append-nil read) found.1)
+  files_held held RightFor (name ∷ names) time read there right =
+      held_under (λ text. OnText text (Number (suc time)) (λ file. OnFiles held (suc time) (read ++ file ∷ []) names RightFor)) (held time) name (there time).0
+      (λ text. on_text (Number (suc time)) (λ file. OnFiles held (suc time) (read ++ file ∷ []) names RightFor) text
+      (λ file formula. files_held held RightFor names (suc time) (read ++ file ∷ []) (λ at. (there at).1)
+      (λ files count cores.
+      let found = right (file ∷ files) (ap suc count) (formula.has_core, cores) in
+      (found.0, subst (λ all. RightFor all found.0) (sym (append_assoc read (file ∷ []) files)) found.1))))
 
   replay_held : (subset : Subset) (observer trace : List ℕ) (held : Texts) → IsSome (held 0 observer) → IsSome (held 1 trace)
       → (outcome : Outcome) × Fulfils (Replay subset observer trace) held outcome
@@ -200,6 +225,9 @@ module _ (some_reading : SomeReading) (reports : SomeReport) (syntheses : SomeSy
       let other = recursion_from_All (λ n. IsSome (held 1 n)) (observer ∷ trace ∷ []) (there 1) in
       replay_held subset observer trace held one.0 other.1.0
   some_for_request held (Sweep seed count) range there = some_sweep laws accept outside_is seed count
+  some_for_request held (Set question names limits tuples) range there =
+      files_held held (IsOfSet question limits tuples) names 0 [] (λ at. recursion_from_All (λ n. IsSome (held at n)) names (there at))
+      (λ files count cores. sets question limits tuples files (subst (λ n. 0 < n) (sym count) range.some_names) cores)
 
   some_for_taken : (words : List (List ℕ)) (held : Texts) → AreHeld words held → IsTaken words → (request : Option Request)
       → request_of words ≡ request → IsSome request → (outcome : Outcome) × IsRight words held outcome

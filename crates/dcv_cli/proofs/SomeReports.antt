@@ -1,5 +1,6 @@
 -- Each formula file has a step that is the first over the limits, or an answer: what is right for it is found.
 --     table_of_file        the canonical table of the models of a file all of whose steps are within the limits
+--     first_over           a step that is over the limits, as it is said
 --     over_or_within       the outcome that names the step, or all steps are within the limits
 --     some_sweep           the summary of formulas that are drawn
 --     some_comparison      what is said of two files, whether they are within or not
@@ -10,7 +11,7 @@ use Rattle.dcv_cli.proofs.Common.{canonical_for_same_behaviours, WordLaws, Plain
 use Rattle.dcv_cli.proofs.Common.{fault_of_file, fault_of_goal, WordsAreModels, fault_of_names, no_bound_shift, TooManyStates, TooManyNodes}
 use Rattle.dcv_cli.proofs.Common.{Limits, IsWithinBudget, IsOver, MachineAcceptsStep, difference, NoneWhereIncluded}
 use Rattle.dcv_cli.proofs.Common.{summary_text, texts_of, Excess, States, Nodes, Over, Declarations, Budget, Formula, Product, Which, Only}
-use Rattle.dcv_cli.proofs.Common.{First, Second, Done, steps_of_file, kind_of, limit_of, IsFirstOver, IsBudgeted, OverBudget, WithinBudget}
+use Rattle.dcv_cli.proofs.Common.{First, Second, Done, steps_of_file, kind_of, limit_of, IsBudgeted, OverBudget, WithinBudget}
 use Rattle.dcv_cli.proofs.Common.{compared, have_same_texts, IsDifference, OverProduct, WithinProduct, IsCompared, Undeclared, Declared}
 use Rattle.dcv_cli.proofs.Common.{Outcome, refused, default_limits, IsSwept, some_verdict}
 use Rattle.std.specs.List.{AllZip}
@@ -27,6 +28,7 @@ use Rattle.dcv_implies.specs.Comparison.{AreTablesOf, product}
 use Rattle.dcv_sweep.specs.Findings.{IsFinding, summary_of}
 use Rattle.dcv_sweep.specs.declared.findings.Finding.{Finding}
 use Rattle.dcv_sweep.specs.declared.findings.Finding.TheVariants.{Over as FoundOver, Within as FoundWithin}
+use Rattle.dcv_cli.specs.Budget.{IsFirstOverIn}
 use Rattle.dcv_cli.proofs.Comparisons.{count_same, names_same, names_differ, none_is}
 use Rattle.dcv_quotient.proofs.RowLimits.{within_or_exceeds, table_of_row}
 use Rattle.dcv_existence.proofs.SomeBudgets.{some_budget, table_of_core}
@@ -59,11 +61,11 @@ unfolding excess_of
 is_its_kind TooManyStates = refl
 is_its_kind TooManyNodes = refl
 
-first_over : (limits : Limits) (file : PlainFile) (kind : Kind) (number : ℕ) → IsOver (steps_of_file file) limits kind number → (over : Over) × IsFirstOver limits file over
-first_over limits file kind number is = (
+pub first_over : (limits : Limits) (steps : List PlainStep) (kind : Kind) (number : ℕ) → IsOver steps limits kind number → (over : Over) × IsFirstOverIn steps limits over
+first_over limits steps kind number is = (
   record { excess = excess_of kind; limit = limit_of (excess_of kind) limits; at = is.step.span.start; step = number },
   record {
-    is_over = subst (λ (k : Kind). IsOver (steps_of_file file) limits k number) (is_its_kind kind) is;
+    is_over = subst (λ (k : Kind). IsOver steps limits k number) (is_its_kind kind) is;
     limit = refl;
     begins = ap (option_map (λ (step : PlainStep). step.span.start)) is.is_there;
   },
@@ -74,7 +76,7 @@ module _ (laws : WordLaws) (accept : MachineAcceptsStep) where
       → ((outcome : Outcome) × IsBudgeted limits which RightFor file outcome) ⊎ IsWithinBudget (steps_of_file file) limits
   over_or_within limits which RightFor file = elim (some_budget (length file.variables) (core_of_file file) limits laws accept) [
     | inl within ↦ inr within
-    | inr (kind, (number, is)) ↦ let (over, first) = first_over limits file kind number is in inl (refused (Budget over) which, OverBudget over first refl)
+    | inr (kind, (number, is)) ↦ let (over, first) = first_over limits (steps_of_file file) kind number is in inl (refused (Budget over) which, OverBudget over first refl)
   ]
 
   module _ (outside_is : ComplementIsCanonical) where

@@ -1,15 +1,17 @@
 -- The laws that `src/laws.rt` proves.
-use Rattle.std.specs.Prelude.{◌≡◌, ◌≢◌, ◌⊎◌, ℕ, Bool, false, List, [], Option, Some, IsTrue, length, codes, IsSome, IsSomeAnd}
-use Rattle.dcv_cli.specs.Common.{PlainFile, models, texts_of, Limits, IsOver, Excess, Over, Budget, Product, Which, Only, First, Second}
+use Rattle.std.specs.Prelude.{◌≡◌, ◌≢◌, ◌⊎◌, ℕ, suc, Bool, false, List, [], ◌∷◌, Option, Some, IsTrue, length, codes, IsSome, IsSomeAnd}
+use Rattle.dcv_cli.specs.Common.{PlainFile, models, texts_of, Limits, IsOver, Excess, Over, Budget, Product, Which, Only, First, Second, Number}
 use Rattle.dcv_cli.specs.Common.{Done, Valid, Usage, all_text, Kind, Automaton, All as AllTexts, IsTaken, Request, Report, Certify, Convert}
-use Rattle.dcv_cli.specs.Common.{Implies, Stuck, Synth, files_of, Version, One, Two}
+use Rattle.dcv_cli.specs.Common.{Implies, Stuck, Synth, Set, files_of, Version, One, Two}
 use Rattle.std.specs.List.{All}
+use Rattle.dcv_core.specs.Steps.{PlainStep}
 use Rattle.dcv_language.specs.Language.{HaveSameBehaviours}
 use Rattle.dcv_tokens.specs.Tokens.{BeginsWith}
 use Rattle.dcv_explore.specs.Budget.{Kind as KindOfExcess}
 use Rattle.dcv_implies.specs.Comparison.{IsProductOver}
 use Rattle.dcv_print.specs.Automaton.{DifferInSuffixes}
-use Rattle.dcv_cli.specs.Budget.{steps_of_file, limit_of, IsFirstOver}
+use Rattle.dcv_cli.specs.Budget.{steps_of_file, limit_of, IsFirstOverIn}
+use Rattle.dcv_cli.specs.FileSet.{joint_of, steps_over}
 use Rattle.dcv_cli.specs.FormulaFile.{IsFormulaFile}
 use Rattle.dcv_cli.specs.Held.{Texts}
 use Rattle.dcv_cli.specs.Outcome.{Outcome, refused, has_automaton, AgreeInMeaning}
@@ -19,17 +21,21 @@ use Rattle.dcv_cli.specs.Status.{is_answer}
 
 -- ---- one outcome
 
--- The step of the file that is first over the limits is over both, and one outcome names the states, the other the nodes.
-pub record DifferInStep (limits : Limits) (which : Which) (file : PlainFile) (one other : Outcome) : Type 0 where
+-- The step that is first over the limits is over both, and one outcome names the states, the other the nodes.
+pub record DifferInStepOf (steps : List PlainStep) (limits : Limits) (which : Which) (one other : Outcome) : Type 0 where
   pub first : Over
   pub second : Over
-  pub first_is : IsFirstOver limits file first
-  pub second_is : IsFirstOver limits file second
+  pub first_is : IsFirstOverIn steps limits first
+  pub second_is : IsFirstOverIn steps limits second
   pub differ : first.excess ≢ second.excess
   pub step : first.step ≡ second.step
-  pub both : (kind : KindOfExcess) → IsOver (steps_of_file file) limits kind first.step
+  pub both : (kind : KindOfExcess) → IsOver steps limits kind first.step
   pub one_is : one ≡ refused (Budget first) which
   pub other_is : other ≡ refused (Budget second) which
+
+-- of the file's own steps
+abbrev pub DifferInStep : Limits → Which → PlainFile → Outcome → Outcome → Type 0
+DifferInStep limits which file one other = DifferInStepOf (steps_of_file file) limits which one other
 
 -- so it is with the product of two files
 pub record DifferInProduct (limits : Limits) (file another : PlainFile) (one other : Outcome) : Type 0 where
@@ -48,6 +54,21 @@ abbrev pub DifferOnFiles : Limits → Option (List ℕ) → Option (List ℕ) �
 DifferOnFiles limits text another_text one other = IsSomeAnd text (λ bytes. IsSomeAnd another_text (λ others.
     (file : PlainFile) × (another : PlainFile) × IsFormulaFile bytes file × IsFormulaFile others another × DifferInProduct limits file another one other))
 
+-- the formula files that are held under the names, each at its time
+abbrev pub AreHeldFiles : Texts → ℕ → List (List ℕ) → List PlainFile → Type 0
+AreHeldFiles held time [] [] = Unit {0}
+AreHeldFiles held time (name ∷ names) (file ∷ files) = IsSomeAnd (held time name) (λ bytes. IsFormulaFile bytes file) × AreHeldFiles held (suc time) names files
+AreHeldFiles held time _ _ = ⊥
+
+-- a step of one of the files, from this number on, over the joint names
+abbrev pub DifferAmong : Limits → List (List ℕ) → ℕ → List PlainFile → Outcome → Outcome → Type 0
+DifferAmong limits joint number [] one other = ⊥
+DifferAmong limits joint number (file ∷ files) one other =
+    DifferInStepOf (steps_over joint file) limits (Number number) one other ⊎ DifferAmong limits joint (suc number) files one other
+
+abbrev pub DifferInSet : Limits → Texts → List (List ℕ) → Outcome → Outcome → Type 0
+DifferInSet limits held names one other = (files : List PlainFile) × AreHeldFiles held 0 names files × DifferAmong limits (joint_of files) 1 files one other
+
 -- what a request leaves open where both limits are exceeded
 abbrev pub DifferInLimit : Request → Texts → Outcome → Outcome → Type 0
 DifferInLimit (Report kind name limits) held one other = DifferOnFile limits Only (held 0 name) one other
@@ -56,6 +77,7 @@ DifferInLimit (Synth name inputs limits) held one other = DifferOnFile limits On
 DifferInLimit (Implies first second limits) held one other =
     DifferOnFile limits First (held 0 first) one other
     ⊎ (DifferOnFile limits Second (held 1 second) one other ⊎ DifferOnFiles limits (held 0 first) (held 1 second) one other)
+DifferInLimit (Set question names limits tuples) held one other = DifferInSet limits held names one other
 DifferInLimit _ held one other = ⊥
 
 -- whether the text of an automaton is asked for that has to list suffixes

@@ -10,6 +10,7 @@ use dcv_certify::laws::{
 };
 use dcv_command::laws::taken_words_ask;
 use dcv_implies::laws::{none_is_inclusion, one_answer as one_comparison};
+use dcv_joint::laws::{moved_means_restricted, names_are_joint};
 use dcv_language::laws::{
     complement_is_canonical, one_canonical_table, one_verdict, verdict_of_same_behaviours,
 };
@@ -27,6 +28,7 @@ use dcv_synth::laws::{
     answers_are_one, controls_win, least_lines_are_one, one_side_is_right, some_player_wins,
     strategies_beat, units_answer, winners_of_same_behaviours,
 };
+use dcv_together::laws::{one_answer as one_answer_of_sets, some_answer};
 
 /// The promise of the program, of whatever is right where the words ask for `all` of a text: its first fault is named, or the first step that
 /// is over the limits; or an automaton, a Lustre observer and a C observer are printed that each, by its own written meaning, accept exactly the
@@ -67,6 +69,7 @@ pub fn one_outcome()
     traces_have_one_verdict();
     letters_have_one_text_of_answers();
     one_summary();
+    one_answer_of_sets();
     one_canonical_table();
     answers_are_one();
     one_side_is_right();
@@ -103,6 +106,9 @@ pub fn some_outcome()
     units_answer();
     least_lines_are_one();
     never_stuck_goes_on();
+    moved_means_restricted();
+    names_are_joint();
+    some_answer();
 }
 
 /// Formula files with the same variables and the same models have the same answer: the same verdict, the same observers, and the same

@@ -3,7 +3,8 @@
 use Rattle.dcv_quotient.proofs.WordOrder.{word_laws}
 use Rattle.dcv_cli.proofs.SomeControllers.{GameLaws}
 use Rattle.dcv_cli.proofs.SomeKinds.{some_budgeted}
-use Rattle.dcv_cli.proofs.SomeOutcome.{SomeReport, SomeSynthesis, some_outcome}
+use Rattle.dcv_cli.proofs.SomeOutcome.{SomeReport, SomeSet, SomeSynthesis, some_outcome}
+use Rattle.dcv_cli.proofs.SomeSet.{some_of_set}
 use Rattle.dcv_cli.proofs.SomeSynthesised.{some_synthesised}
 use Rattle.dcv_cli.proofs.VariableNames.{are_names}
 use Rattle.dcv_cli.proofs.laws.some_outcome.Goals as goal
@@ -41,7 +42,9 @@ returns c =
     }) in
     let syntheses : SomeSynthesis = λ inputs limits range text file formula.
     some_synthesised word_laws accept models_are game inputs limits file range.within.few_states range.within.few_nodes (are_names short text file formula) formula.has_core in
-    some_outcome c.some_reading.ensures reports syntheses word_laws accept outside_is models_are c.none_is_inclusion.ensures.none
+    let sets : SomeSet =
+    some_of_set word_laws accept c.moved_means_restricted.ensures.file c.names_are_joint.ensures.each c.some_answer.ensures.possible c.some_answer.ensures.stuck c.some_answer.ensures.following in
+    some_outcome c.some_reading.ensures reports syntheses sets word_laws accept outside_is models_are c.none_is_inclusion.ensures.none
     c.minimal_shows_fewest_states.ensures.fewest c.minimal_shows_fewest_states.ensures.reached
     c.taken_words_ask.ensures c.texts_are_nodes_or_at_fault.ensures.some c.texts_are_units_or_at_fault.ensures.some
     c.traces_have_one_verdict.ensures.some c.letters_have_one_text_of_answers.ensures.some c.never_stuck_goes_on.ensures
