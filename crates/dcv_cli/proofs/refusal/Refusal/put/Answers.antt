@@ -18,3 +18,6 @@ returns-in-Write g c = rw c.in-Write.is c.put_fault-in-Write.ensures
 
 pub returns-in-Memory : goal.returns-in-Memory
 returns-in-Memory g c = rw c.in-Memory.is c.put_fault-in-Memory.ensures
+
+pub returns-in-Tuples : goal.returns-in-Tuples
+returns-in-Tuples g c = rw c.in-Tuples.is c.put_tuples.ensures
