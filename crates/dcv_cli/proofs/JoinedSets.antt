@@ -1,7 +1,7 @@
 -- The files of a set over the names of all of them: what the loops over them keep, and what is right at their end.
-use Rattle.dcv_cli.proofs.Common.{◌≡◌, ℕ, ◌+◌, ◌<◌, zero, suc, true, false, List, [], ◌∷◌, ◌++◌, length, take, drop, map, get_or, Option, None, Some, arith, refl, sym, ap, ◌∙◌}
-use Rattle.dcv_cli.proofs.Common.{subst, inl, inr, IsTrue, OnTrue, option_map, length-append, HaveSameBehaviours, Language, raw_accepts, RawValue, Limits, PlainFile, Outcome}
-use Rattle.dcv_cli.proofs.Common.{IsRead, Refusal, Which, Only, IsExplained, IsWithinBudget, NamesFirstOver, Budget, Memory, Formula, refused as refused_as, only, status_of, has_cause}
+use Rattle.dcv_cli.proofs.Common.{◌≡◌, ℕ, ◌+◌, ◌<◌, zero, suc, List, [], ◌∷◌, ◌++◌, length, take, drop, map, get_or, Option, None, Some, arith, refl, sym, ap, ◌∙◌}
+use Rattle.dcv_cli.proofs.Common.{subst, inl, inr, IsTrue, OnTrue, option_map, Language, raw_accepts, RawValue, Limits, PlainFile, Outcome}
+use Rattle.dcv_cli.proofs.Common.{IsRead, Refusal, Only, IsExplained, NamesFirstOver, Budget, Memory, refused as refused_as, only, status_of, has_cause}
 use Rattle.dcv_cli.proofs.Common.{is_of_text, is_determined}
 use Rattle.std.specs.List.{All}
 use Rattle.std.specs.Option.{option_or}
@@ -10,11 +10,11 @@ use Rattle.dcv_command.specs.declared.words.SetQuestion.TheVariants.{Together, F
 use Rattle.dcv_joint.specs.Faults.{most_names, too_many_at}
 use Rattle.dcv_joint.specs.Names.{HasAll, joint_from, joint_names, with_new}
 use Rattle.dcv_joint.specs.Laws.{JointHasEach}
-use Rattle.dcv_together.specs.Answers.{Answer, TooMany, Least, IsPossible, IsStuckOf, IsFollowingFirst}
+use Rattle.dcv_together.specs.Answers.{Answer, TooMany, Least, IsFollowingFirst}
 use Rattle.dcv_together.specs.Laws.{HaveSameBehavioursEach, PossibleOfSets, StuckOfSets, FollowingOfSets}
-use Rattle.dcv_cli.specs.FileSet.{AreBudgeted, FewFollowing, FewTuples, IsAnswered, IsDecidedFollowing, IsDecidedTogether, IsOfSet, Joined, ManyNames, OverLimits, OverSlots}
-use Rattle.dcv_cli.specs.FileSet.{TooManyFollowing, TooManyTuples, WithinLimits, extra_in, fits_over, joint_of, models_over, own_names, steps_over}
-use Rattle.dcv_cli.specs.Joined.{AreAutosOver, AreRead, AreReadAs, ExtraAt, FewSlots, FilesAreOver, IsExtraName, IsFirstRefused, IsJoinedSet, IsOverAt, IsRefusedOver, IsUnjoined}
+use Rattle.dcv_cli.specs.FileSet.{AreBudgeted, FewFollowing, FewTuples, IsAnswered, IsOfSet, Joined, ManyNames, OverLimits, OverSlots}
+use Rattle.dcv_cli.specs.FileSet.{TooManyFollowing, TooManyTuples, WithinLimits, extra_in, joint_of, models_over, own_names, steps_over}
+use Rattle.dcv_cli.specs.Joined.{AreAutosOver, AreRead, AreReadAs, ExtraAt, FewSlots, FilesAreOver, IsExtraName, IsJoinedSet, IsRefusedOver, IsUnjoined}
 use Rattle.dcv_cli.specs.Joined.{IsAutoOver, IsWhole, ManySlots, NamesAreMany, NoMemory, NoMemoryForAutos, NoMemoryForNames, OverAt}
 use Rattle.dcv_cli.specs.Joined.{ExtraName, IsJoint, IsRefusedName, NoMemoryForName}
 use Rattle.dcv_cli.specs.declared.file_set.JoinedSet.{JoinedSet}

@@ -1,5 +1,5 @@
 -- One outcome at most is right.
-use Rattle.dcv_cli.proofs.Common.{◌≡◌, ◌≢◌, ◌⊎◌, inl, inr, refl, ℕ, suc, List, [], ◌∷◌, ◌++◌, length, Option, None, Some, sym, ap, ◌∙◌}
+use Rattle.dcv_cli.proofs.Common.{◌≡◌, ◌⊎◌, inl, inr, refl, ℕ, suc, List, [], ◌∷◌, ◌++◌, length, Option, None, Some, sym, ap, ◌∙◌}
 use Rattle.dcv_cli.proofs.Common.{subst, arith, IsSomeAnd, append-nil, append_assoc, true≢false, PlainFile, models}
 use Rattle.dcv_cli.proofs.Common.{OneVerdict, SpellsOne, core_of_file, fault_of_file, ScopeFault}
 use Rattle.dcv_cli.proofs.Common.{Limits, WithinExcludesOver, Excess}

@@ -1,6 +1,6 @@
 -- One outcome at most is right for files that are decided together, but where the first that is over the limits is over both.
 use Rattle.dcv_cli.proofs.Common.{◌≡◌, ◌⊎◌, inl, inr, ℕ, suc, List, [], ◌∷◌, length, map, Option, None, Some, sym, ap, ◌∙◌, true≢false}
-use Rattle.dcv_cli.proofs.Common.{core_of_file, Language, Limits, Outcome, Over, PlainFile, Word, WithinExcludesOver, Formula, kind_of, refused}
+use Rattle.dcv_cli.proofs.Common.{core_of_file, Language, Limits, Outcome, PlainFile, Word, WithinExcludesOver, Formula, kind_of, refused}
 use Rattle.dcv_build.specs.Laws.{OneStepIsOver}
 use Rattle.dcv_command.specs.declared.words.SetQuestion.{SetQuestion}
 use Rattle.dcv_command.specs.declared.words.SetQuestion.TheVariants.{Together, Follows}
@@ -11,8 +11,8 @@ use Rattle.dcv_together.specs.Laws.{OneLeastWithin, OneStuckOf}
 use Rattle.dcv_language.specs.Language.{outside}
 use Rattle.dcv_language.specs.Operations.{intersection}
 use Rattle.dcv_cli.specs.FileSet.{AreBudgeted, FewFollowing, FewTuples, IsAnswered, IsBudgetedAt, IsDecidedFollowing, IsDecidedTogether, IsOfSet, Joined, ManyNames, OverLimits, OverSlots}
-use Rattle.dcv_cli.specs.FileSet.{TooManyFollowing, TooManyTuples, WithinLimits, extra_in, following_outcome, joint_of, models_over, own_names, set_outcome, steps_over}
-use Rattle.dcv_cli.specs.Laws.{DifferAmong, DifferInStepOf}
+use Rattle.dcv_cli.specs.FileSet.{TooManyFollowing, TooManyTuples, WithinLimits, extra_in, following_outcome, joint_of, models_over, own_names, set_outcome}
+use Rattle.dcv_cli.specs.Laws.{DifferAmong}
 use Rattle.dcv_cli.specs.declared.faults.FormulaFault.TheVariants.{Names}
 use Rattle.dcv_cli.specs.declared.refused.Which.TheVariants.{Number}
 use Rattle.dcv_cli.proofs.OneOver.{one_over}

@@ -1,7 +1,7 @@
 -- One file over the joint names of a set: its names, its core and its automaton there.
-use Rattle.dcv_cli.proofs.Common.{◌≡◌, ℕ, List, length, map, true, false, refl, sym, ap, ◌∙◌, subst, core_of_file, models, Language, HaveSameBehaviours, RawValue, raw_accepts}
-use Rattle.dcv_cli.proofs.Common.{IsAuto, IsAutomatonOf, IsRead, PlainFile, PlainStep, Limits, IsWithinBudget, NamesFirstOver, Refusal, Formula, Memory, Name, texts_of, words_of, steps_of, fault_of_file, None}
-use Rattle.dcv_core.specs.Steps.{CoreStep, IsCoreOf, PlainCore, without_core}
+use Rattle.dcv_cli.proofs.Common.{◌≡◌, ℕ, List, length, true, refl, sym, ap, ◌∙◌, subst, core_of_file, RawValue}
+use Rattle.dcv_cli.proofs.Common.{IsAuto, IsAutomatonOf, IsRead, PlainFile, Limits, IsWithinBudget, NamesFirstOver, Refusal, Formula, Name, texts_of, words_of, steps_of, fault_of_file, None}
+use Rattle.dcv_core.specs.Steps.{IsCoreOf, PlainCore}
 use Rattle.dcv_joint.specs.Faults.{IsFaultOfCore, IsFaultOfNames, has_few_slots}
 use Rattle.dcv_joint.specs.Laws.{FileMeansOver}
 use Rattle.dcv_joint.specs.Moved.{moved_core, places_of}
@@ -10,11 +10,10 @@ use Rattle.dcv_joint.specs.declared.joint.JointFault.{JointFault}
 use Rattle.dcv_joint.specs.declared.joint.JointFault.TheVariants.{TooMany, Slots as ManySlotsFault, Memory as MemoryFault}
 use Rattle.dcv_scope.specs.declared.faults.ScopeFault.TheVariants.{Slots}
 use Rattle.dcv_word.specs.Behaviour.{IsBehaviour}
-use Rattle.dcv_cli.specs.FileSet.{fits_over, models_over, own_names, steps_over}
+use Rattle.dcv_cli.specs.FileSet.{fits_over, own_names}
 use Rattle.dcv_cli.specs.Joined.{ExtraName, FewSlots, IsAutoOver, IsCoreOver, IsRefusedName, IsRefusedOver, IsSlotsRefusal, ManySlots, NoMemory, NoMemoryForCore, NoMemoryForName, SlotsAre, refusal_of_joint}
 use Rattle.dcv_cli.specs.declared.faults.FormulaFault.TheVariants.{Scope}
 use Rattle.dcv_cli.specs.declared.formula_file.FormulaFile.{FormulaFile}
-use Rattle.dcv_cli.proofs.Budgets.{of_core}
 
 -- names that do not fit
 pub names_refused : (fault : JointFault) (goal : ℕ) (joint : List (List ℕ)) (names : List Name) → IsFaultOfNames joint names fault

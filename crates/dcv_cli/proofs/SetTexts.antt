@@ -1,5 +1,5 @@
 -- What is said of a set: its names, and what is found of it.
-use Rattle.dcv_cli.proofs.Common.{◌≡◌, ◌<◌, ◌≤◌, ℕ, List, [], ◌∷◌, length, take, map, flat_map, ap, ◌∙◌, refl, subst, arith, inl, inr, Word, Language, RawValue, raw_accepts, Refusal, sym}
+use Rattle.dcv_cli.proofs.Common.{◌≡◌, ◌<◌, ◌≤◌, ℕ, List, [], ◌∷◌, length, take, map, flat_map, ap, refl, subst, arith, inl, inr, Word, Language, RawValue, raw_accepts, Refusal, sym}
 use Rattle.dcv_cli.proofs.Common.{Option, Outcome}
 use Rattle.std.proofs.Common.{take_all}
 use Rattle.dcv_automaton_text.specs.Spelled.{name_words}

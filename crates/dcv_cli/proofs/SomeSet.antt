@@ -1,7 +1,7 @@
 -- Some outcome is right for files that are decided together.
 --     HaveCores files      each file is without a fault
 --     some_of_set          they have a right outcome, whatever is asked of them
-use Rattle.dcv_cli.proofs.Common.{◌≡◌, ◌⊎◌, inl, inr, ℕ, suc, ◌<◌, Bool, true, false, List, [], ◌∷◌, ◌++◌, length, map, Option, None, Some, refl, sym, ◌∙◌, arith}
+use Rattle.dcv_cli.proofs.Common.{◌≡◌, inl, inr, ℕ, suc, ◌<◌, Bool, true, false, List, [], ◌∷◌, ◌++◌, length, map, Option, None, Some, refl, sym, ◌∙◌, arith}
 use Rattle.dcv_cli.proofs.Common.{canonical_for_same_behaviours, core_of_file, fault_of_file, append_assoc, words_of, Budget, Formula, IsCanonical, IsWithinBudget}
 use Rattle.dcv_cli.proofs.Common.{Language, Limits, MachineAcceptsStep, Outcome, PlainFile, Table, Word, WordLaws, Only, refused}
 use Rattle.dcv_command.specs.declared.words.SetQuestion.{SetQuestion}

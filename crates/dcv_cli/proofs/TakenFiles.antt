@@ -1,14 +1,12 @@
 -- The files of a set, taken one after another: what is right for all of them is right for their names, and a command that ends before has ended as it may.
 use Rattle.dcv_cli.proofs.Common.{◌≡◌, ℕ, ◌+◌, List, [], ◌∷◌, ◌++◌, length, Option, None, Some, Result, Ok, Err, arith, refl, sym, ap, ◌∙◌, subst, append_assoc}
-use Rattle.dcv_cli.proofs.Common.{if◌then◌else◌, OnTrue, Disk, held_of, Asks, PlainFile, Refusal, Status, Which, Texts, ForHeld, IsHeldText, OfHeldText, OnHeld, Outcome}
-use Rattle.dcv_cli.proofs.Common.{refused, Outside, Stream, with_output, Answers, Performs, Takes, ending, is_input, IsRefused, IsFormulaFile, OnText, Refused, Read}
+use Rattle.dcv_cli.proofs.Common.{OnTrue, Disk, held_of, Asks, PlainFile, Refusal, Status, Texts, ForHeld, IsHeldText, OfHeldText, Outcome}
+use Rattle.dcv_cli.proofs.Common.{refused, Outside, Stream, with_output, Answers, Performs, Takes, ending, IsRefused, Refused, Read}
 use Rattle.dcv_cli.proofs.Common.{is_determined, status_of, only, IsExplained, IsRead, Appends, RisesIf, is_open, is_read, Only, take-length}
-use Rattle.std.specs.Prelude.{◌*◌}
 use Rattle.std.specs.Borrow.{Bor}
-use Rattle.dcv_cli.proofs.Common.{zero, suc, take, drop, map, get_or, ◌<◌, ◌≤◌, ◌-◌}
+use Rattle.dcv_cli.proofs.Common.{zero, suc, take, drop, map, get_or, ◌<◌, ◌≤◌}
 use Rattle.std.proofs.Common.{length-append, append-nil}
 use Rattle.dcv_io.proofs.Asking.{asks_further, asks_in_turn, asks_none, asks_no_prefix}
-use Rattle.dcv_cli.specs.Comparison.{HasFormula}
 use Rattle.dcv_cli.specs.FileSet.{HaveFormulas, IsOfSet, LeavesSet, OnFiles}
 use Rattle.dcv_cli.specs.Joined.{AreHeldTexts, AreReadAs, LeavesFiles, OnHeldFiles, StopsTaking, TakesAll, most_calls}
 use Rattle.dcv_cli.specs.Refusal.{marked, most_bytes}

@@ -9,7 +9,7 @@
 --     AreAutosOver limits joint files autos     the files are within the limits, and these are their automata over the joint names
 --     IsOverAt limits joint files refused   some file is not, and the refusal names the first
 --     IsJoinedSet limits files set          the names and the automata of the files
-use Rattle.std.specs.Prelude.{◌≡◌, ◌<◌, ◌≤◌, ◌+◌, ◌*◌, ℕ, suc, true, false, List, [], ◌∷◌, ◌++◌, None, Some, length, map, Option, Result, Err}
+use Rattle.std.specs.Prelude.{◌≡◌, ◌<◌, ◌≤◌, ◌+◌, ◌*◌, ℕ, suc, true, false, List, [], ◌∷◌, ◌++◌, None, Some, length, Option, Err}
 use Rattle.std.specs.List.{All}
 use Rattle.dcv_core.specs.Steps.{IsCoreOf, PlainCore}
 use Rattle.dcv_dfa.specs.Raw.{RawValue, raw_accepts}
@@ -22,7 +22,7 @@ use Rattle.dcv_scope.specs.CoreOf.{core_of_file}
 use Rattle.dcv_scope.specs.declared.faults.ScopeFault.TheVariants.{Slots}
 use Rattle.dcv_syntax.specs.declared.names.Name.{Name}
 use Rattle.dcv_cli.specs.Budget.{NamesFirstOver}
-use Rattle.dcv_cli.specs.Common.{Asks, Budget, Disk, Formula, IsWithinBudget, Limits, Only, Over, PlainFile, Refusal, Refused, Status, Which, held_of}
+use Rattle.dcv_cli.specs.Common.{Asks, Disk, Formula, IsWithinBudget, Limits, PlainFile, Refusal, Refused, held_of}
 use Rattle.dcv_command.specs.declared.words.SetQuestion.{SetQuestion}
 use Rattle.dcv_cli.specs.FileSet.{IsOfSet, LeavesSet, OnFiles, extra_in, fits_over, joint_of, models_over, own_names, steps_over}
 use Rattle.dcv_cli.specs.Held.{ForHeld, IsHeldText}

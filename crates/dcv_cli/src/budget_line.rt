@@ -83,5 +83,8 @@ pub(crate) fn put_tuples<T: Target>(target: &mut T, limit: u32)
     ensures { Puts (T.standing target.old) (T.standing target.new) (tuples_words limit) }
 {
     let mut digits = Buffer::new();
-    put_pieces(target, &[b"budget tuples ", digits.format(limit).as_bytes()]);
+    put_pieces(
+        target,
+        &[b"budget tuples ", digits.format(limit).as_bytes()],
+    );
 }

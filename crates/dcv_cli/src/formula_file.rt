@@ -45,8 +45,8 @@ use dcv_language::laws::canonical_for_same_behaviours;
 use dcv_print::{Verdict, verdict_in};
 use dcv_reader::laws::names_are_short;
 use dcv_reader::read_file;
-use dcv_scope::{ScopeFault, expand};
 use dcv_scope::laws::{core_means_text, measures_bound_core};
+use dcv_scope::{ScopeFault, expand};
 use dcv_syntax::{File, Name};
 use std::alloc::{AllocError, Global};
 

@@ -151,7 +151,9 @@ const OVER_A_FORMULA: [Argument<'static>; 3] = [FORMULA_FILE, STATES, NODES];
 // Of a command over a set of formula files.
 const OVER_A_SET: [Argument<'static>; 4] = [
     argument! { "file", Form::Operand, Value::FileNames, "FILE", "The formula files, one or more, whose variables are joined by their names" },
-    STATES, NODES, TUPLES,
+    STATES,
+    NODES,
+    TUPLES,
 ];
 
 // Of a command over an observer's text and a trace.

@@ -1,5 +1,5 @@
 -- A run whose words ask for something, over files that tell what they hold, ends as that request has it.
-use Rattle.std.proofs.Common.{◌≡◌, ℕ, List, Bool, true, false, Option, None, Some, IfSome, ap, ◌∙◌, subst}
+use Rattle.std.proofs.Common.{◌≡◌, ℕ, suc, List, [], ◌∷◌, ◌++◌, Bool, true, false, Option, None, Some, IfSome, ap, ◌∙◌, subst}
 use Rattle.std.specs.Bool.{OnTrue}
 use Rattle.std.specs.Option.{IsSomeAnd}
 use Rattle.dcv_io.specs.Disk.{Disk, held_of}
@@ -8,13 +8,15 @@ use Rattle.dcv_explore.specs.declared.explorer.Limits.{Limits}
 use Rattle.dcv_language.specs.declared.kind.Kind.{Kind}
 use Rattle.dcv_language.specs.declared.kind.Kind.TheVariants.{All, Tables}
 use Rattle.dcv_replay.specs.Observer.{Observer}
-use Rattle.dcv_command.specs.Request.{Request, Report, Certify, Implies, Stuck, Synth, Replay}
+use Rattle.dcv_command.specs.Request.{Request, Report, Certify, Implies, Set, Stuck, Synth, Replay}
+use Rattle.dcv_command.specs.declared.words.SetQuestion.{SetQuestion}
 use Rattle.dcv_command.specs.declared.words.Subset.{Subset}
 use Rattle.dcv_cli.specs.declared.refused.Which.{Which}
-use Rattle.dcv_cli.specs.declared.refused.Which.TheVariants.{First, Second}
+use Rattle.dcv_cli.specs.declared.refused.Which.TheVariants.{First, Number, Second}
 use Rattle.dcv_cli.specs.declared.status.Status.{Status}
 use Rattle.dcv_cli.specs.Comparison.{IsCompared}
 use Rattle.dcv_cli.specs.Ending.{EndsBy}
+use Rattle.dcv_cli.specs.FileSet.{IsOfSet, OnFiles}
 use Rattle.dcv_cli.specs.FormulaFile.{OnText, Refused, Read}
 use Rattle.dcv_cli.specs.Headline.{AllIsSaid, TablesAreSaid, Answers, Headline, TablesHeadline, IsAnswered}
 use Rattle.dcv_cli.specs.Held.{Texts, OnHeld}
@@ -24,7 +26,7 @@ use Rattle.dcv_cli.specs.Replayed.{IsReplay}
 use Rattle.dcv_cli.specs.Request.{AsksFor}
 use Rattle.dcv_cli.specs.Right.{Fulfils, IsRight, Misused, Fulfilled, IsRightOver}
 use Rattle.dcv_cli.proofs.OneRequest.{one_request}
-use Rattle.dcv_promises.specs.Promises.{Holds, IsReported, IsImplied, IsContinued, IsPlayed, IsCertified, IsReplayed}
+use Rattle.dcv_promises.specs.Promises.{Holds, HoldEach, IsDecided, OnTexts, IsReported, IsImplied, IsContinued, IsPlayed, IsCertified, IsReplayed}
 
 -- what is right for the words is right for their request
 fulfils : (words : List (List ℕ)) (held : Texts) (outcome : Outcome) (request : Request) → AsksFor words request → IsRight words held outcome
@@ -50,6 +52,17 @@ on_observer : (subset : Subset) (text : List ℕ) (A B : Observer → Outcome �
     → OnObserver subset text A outcome → OnObserver subset text B outcome
 on_observer subset text A B outcome from (RefusedObserver refusal is e) = RefusedObserver refusal is e
 on_observer subset text A B outcome from (ReadObserver one is right) = ReadObserver one is (from one right)
+
+-- and so it is of texts that are held one after another
+texts_in_turn : (told : Option Disk) (texts : Texts) → IfSome (held_of told) (λ held. (time : ℕ) → texts time ≡ held) → (R : List PlainFile → Outcome → Type 0) (outcome : Outcome)
+    → (time : ℕ) (read : List PlainFile) (names given : List (List ℕ)) → HoldEach told names given → OnFiles texts time read names R outcome → OnTexts time read given R outcome
+texts_in_turn told texts same R outcome time read [] [] there on = on
+texts_in_turn told texts same R outcome time read (name ∷ names) (text ∷ given) (is, there) on =
+    on_text text (Number (suc time)) (λ file. OnFiles texts (suc time) (read ++ file ∷ []) names R) (λ file. OnTexts (suc time) (read ++ file ∷ []) given R) outcome
+    (λ file. texts_in_turn told texts same R outcome (suc time) (read ++ file ∷ []) names given there)
+    (one_text (held_of told) name text (λ text. OnText text (Number (suc time)) (λ file. OnFiles texts (suc time) (read ++ file ∷ []) names R)) outcome is texts same time on)
+texts_in_turn told texts same R outcome time read [] (text ∷ given) there on = absurd there
+texts_in_turn told texts same R outcome time read (name ∷ names) [] there on = absurd there
 
 ends_also : (b : Bool) (Right Other : Outcome → Type 0) (status : Status) (old new : Option (List ℕ)) (P : List ℕ → Type 0)
     → ((outcome : Outcome) → Right outcome → Other outcome) → OnTrue b (EndsBy Right status old new P) → OnTrue b (EndsBy Other status old new P)
@@ -121,6 +134,13 @@ module _ (words : List (List ℕ)) (told : Option Disk) where
       (one_text (held_of told) first one
       (λ text. OnText text First (λ file. OnHeld (right.held 1) second (λ also. OnText also Second (IsCompared limits file)))) outcome holds_one right.held right.same 0
       (fulfils words right.held outcome (Implies first second limits) asks right.holds)))
+
+  pub decided : (question : SetQuestion) (names : List (List ℕ)) (limits : Limits) (tuples : ℕ) (texts : List (List ℕ)) → AsksFor words (Set question names limits tuples)
+      → HoldEach told names texts → (b : Bool) (status : Status) (old new : Option (List ℕ)) (P : List ℕ → Type 0)
+      → OnTrue b (EndsBy (IsRightOver words told) status old new P) → OnTrue b (EndsBy (IsDecided question texts limits tuples) status old new P)
+  decided question names limits tuples texts asks there b status old new P = ends_also b (IsRightOver words told) (IsDecided question texts limits tuples) status old new P (λ outcome right.
+      texts_in_turn told right.held right.same (IsOfSet question limits tuples) outcome 0 [] names texts there
+      (fulfils words right.held outcome (Set question names limits tuples) asks right.holds))
 
   pub replayed : (subset : Subset) (observer trace : List ℕ) (one other : List ℕ) → AsksFor words (Replay subset observer trace)
       → Holds told observer one → Holds told trace other

@@ -1,9 +1,9 @@
 -- The automaton of each file is made in turn, or one of the files is over the limits.
-use Rattle.dcv_cli.proofs.Common.{◌≡◌, ◌++◌, ◌∷◌, [], suc, length, sym, ap, ◌∙◌, subst, arith, take, drop, List, RawValue, PlainFile}
+use Rattle.dcv_cli.proofs.Common.{◌++◌, ◌∷◌, [], suc, sym, ap, ◌∙◌, subst, arith, take, drop}
 use Rattle.std.proofs.Common.{take_all}
 use Rattle.dcv_joint.specs.Names.{HasAll}
 use Rattle.dcv_cli.specs.FileSet.{own_names}
-use Rattle.dcv_cli.specs.Joined.{AreAutosOver, IsOverAt, OverAt}
+use Rattle.dcv_cli.specs.Joined.{AreAutosOver, OverAt}
 use Rattle.dcv_cli.specs.Refusal.{marked}
 use Rattle.dcv_cli.specs.declared.refused.Which.TheVariants.{Number}
 use Rattle.dcv_cli.proofs.JoinedSets.{IsReadAt, autos_push, has_own, next, read_at, read_count}

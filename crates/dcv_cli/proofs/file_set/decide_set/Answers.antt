@@ -1,5 +1,5 @@
 -- A run over a set keeps to what all commands do.
-use Rattle.dcv_cli.proofs.Common.{arith, err_from_is_err_and, length-map, map, List, ℕ, length, subst, sym}
+use Rattle.dcv_cli.proofs.Common.{arith, err_from_is_err_and, length-map, map, List, ℕ, subst, sym}
 use Rattle.std.specs.Borrow.{Bor}
 use Rattle.dcv_cli.specs.FileSet.{IsOfSet}
 use Rattle.dcv_cli.specs.Joined.{AreRead}

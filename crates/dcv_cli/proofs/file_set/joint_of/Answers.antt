@@ -4,7 +4,6 @@ use Rattle.dcv_joint.specs.Faults.{most_names, too_many_at}
 use Rattle.dcv_joint.specs.Names.{with_new}
 use Rattle.dcv_cli.specs.Joined.{IsExtraName, IsRefusedName}
 use Rattle.dcv_cli.specs.Refusal.{marked}
-use Rattle.dcv_cli.specs.declared.formula_file.FormulaFile.{FormulaFile}
 use Rattle.dcv_cli.proofs.JoinedSets.{AreJoining, IsReadAt, joining_begins, joining_ends, joining_goes_on, joining_refused, next, read_at}
 use Rattle.dcv_cli.proofs.file_set.joint_of.Goals as goal
 

@@ -1,5 +1,5 @@
 -- The files are taken in turn.
-use Rattle.dcv_cli.proofs.Common.{◌≡◌, ◌++◌, ◌∷◌, [], suc, length, map, take, drop, ap, sym, ◌∙◌, subst, append_assoc, err_from_is_err_and, only, Memory, List, ℕ, length-map, length-take, arith}
+use Rattle.dcv_cli.proofs.Common.{◌≡◌, ◌++◌, ◌∷◌, [], suc, length, map, take, drop, ap, sym, ◌∙◌, subst, append_assoc, err_from_is_err_and, only, Memory, List, ℕ, arith}
 use Rattle.std.proofs.lemmas.Grind.{common_steps}
 use Rattle.std.specs.Borrow.{Bor}
 use Rattle.dcv_cli.proofs.Common.{get_or}

@@ -1,4 +1,4 @@
-use Rattle.dcv_cli.proofs.Common.{ap, puts_both, puts_same, ◌++◌}
+use Rattle.dcv_cli.proofs.Common.{ap, puts_both, puts_same}
 use Rattle.dcv_cli.specs.FileSet.{names_line}
 use Rattle.dcv_cli.proofs.file_set.DecidedReply.put.Goals as goal
 

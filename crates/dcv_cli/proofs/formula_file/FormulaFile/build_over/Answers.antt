@@ -4,7 +4,6 @@ use Rattle.dcv_build.specs.declared.faults.BuildFault.{BuildFault}
 use Rattle.std.proofs.lemmas.Result.{IfErr-at_err}
 use Rattle.dcv_joint.specs.Moved.{moved_core}
 use Rattle.dcv_cli.specs.FileSet.{own_names}
-use Rattle.dcv_cli.specs.Joined.{IsAutoOver}
 use Rattle.dcv_cli.proofs.Budgets.{at_some_step}
 use Rattle.dcv_cli.proofs.OverJoint.{auto_over, refused_over, slots_are_over}
 use Rattle.dcv_cli.proofs.formula_file.FormulaFile.build_over.Goals as goal
