@@ -18,7 +18,7 @@ WIDEST = 1400  # a picture wider than this goes on below
 
 
 class Behaviour(NamedTuple):
-    """A word with what a picture of it says: a title or nothing, the variables, and the instant that is marked, if any."""
+    """A word with what a picture of it says: a title, the variables, and the instant that is marked, if any."""
 
     title: str
     variables: Sequence[str]
@@ -52,22 +52,30 @@ def page(width: float, height: float, parts: Iterable[str], is_styled: bool = Tr
             f'font-family="DejaVu Sans Mono, monospace">\n{style}<rect class="paper" width="100%" height="100%"/>\n' + "\n".join(parts) + "\n</svg>\n")
 
 
-def waves_svg(behaviours: Iterable[Behaviour], widest: int = WIDEST, is_styled: bool = True) -> str:
+def waves_svg(behaviours: Iterable[Behaviour]) -> str:
     """One picture of behaviours below one another."""
     parts: List[str] = []
     width, y = 0.0, 0
     for title, variables, word, marked in behaviours:
-        if title:
-            parts.append(words(12, y + 20, title, 13, "title", weight="bold"))
-            width = max(width, text_width(title, 13) + 24)
-            y += 28
-        for block in _blocks(variables, word, marked, widest):
+        parts.append(words(12, y + 20, title, 13, "title", weight="bold"))
+        width = max(width, text_width(title, 13) + 24)
+        y += 28
+        for block in _blocks(variables, word, marked, WIDEST):
             drawn, right = _block(variables, word, block, y, marked)
             parts += drawn
             width = max(width, right + 16)
             y += HEAD + len(variables) * (HIGH + GAP)
         y += 10
-    return page(width, y, parts, is_styled)
+    return page(width, y, parts)
+
+
+def rows_svg(it: Behaviour, widest: int) -> List[str]:
+    """A picture without a title and colours for each row of instants, so that a page breaks between them."""
+    found = []
+    for block in _blocks(it.variables, it.word, it.marked, widest):
+        parts, right = _block(it.variables, it.word, block, 0, it.marked)
+        found.append(page(right + 16, HEAD - 8 + len(it.variables) * (HIGH + GAP), parts, is_styled=False))
+    return found
 
 
 def _width(column: Column) -> int:

@@ -258,11 +258,16 @@ def add_arguments(parser: argparse.ArgumentParser) -> None:
     parser.add_argument("--junit", metavar="OUT", help="writes what is told as a report of tests in JUnit's XML")
 
 
+def unknown_inputs(inputs: Sequence[str], requirements: Sequence[Requirement]) -> List[str]:
+    return [name for name in inputs if not any(name in it.variables for it in requirements)]
+
+
 def run(options: argparse.Namespace, program: Program) -> int:
     start = time.time()
+    program.command()  # built first, since without a program no fault is found
     requirements = [read_requirement(name, path, lambda path: expand.read(lambda: load(path, path), program)) for name, path in named(options.files)]
     inputs = tuple(name for name in options.inputs.split(",") if name)
-    strange = [name for name in inputs if not any(name in it.variables for it in requirements)]
+    strange = unknown_inputs(inputs, requirements)
     folders = [folder for folder in (options.cache, options.plan, options.take) if folder]
     if strange or len(folders) > 1:
         print(f"ask set: no file has a variable {strange[0]}" if strange else "ask set: --cache, --plan and --take are one without the others", file=sys.stderr)

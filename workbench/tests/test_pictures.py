@@ -7,7 +7,7 @@ import xml.dom.minidom
 import pages
 from commands import ASK, PROGRAM
 from conditions import conditions
-from pictures import COLOURS, Behaviour, vcd, waves_svg
+from pictures import COLOURS, Behaviour, rows_svg, vcd, waves_svg
 from program import Program
 from support import WithFolder, examples, needs_program, run
 from waves import Column, HiddenChange, columns, in_line, spoken_runs, waves
@@ -56,7 +56,7 @@ class Pictures(unittest.TestCase):
         kinds = {it.getAttribute("class") for name in ("rect", "text", "path", "line") for it in document.getElementsByTagName(name)}
         self.assertLessEqual({"mark", "high", "high-folded", "line", "title"}, kinds)
         self.assertLessEqual(kinds, COLOURS.keys())
-        self.assertNotIn("#", waves_svg([Behaviour("", ["p", "q"], FOLDED)], is_styled=False))
+        self.assertNotIn("#", "".join(rows_svg(Behaviour("", ["p", "q"], FOLDED), 300)))
 
     def test_vcd(self):
         """Read back by its own rules, the dump says the word."""
