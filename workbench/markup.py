@@ -8,9 +8,9 @@ from pictures import GAP, HEAD, HIGH, Behaviour, escaped, rows_svg
 from shapes import TOKEN
 from waves import in_line, instants
 
-WIDEST, MOST_ROWS = 640, 10  # of a picture: A4 is so wide in a browser; rows of a behaviour, above which it is a text
+WIDEST, MOST_ROWS, FEW_ROWS = 640, 10, 3  # of a picture: A4 is so wide in a browser; rows of a behaviour, or of one of many, above which it is a text
 MOST_LETTERS, MOST_LINES = 400, 500  # of a behaviour as a text, and of a file
-MOST_TOGETHER, HIGHEST = 6, 850  # rows of a table, and the height of pictures, that are not parted in print
+MOST_TOGETHER, HIGHEST = 6, 300  # rows of a table, and the height of pictures, that are not parted in print
 SIGNS = {"ok": "&#10003;", "warn": "!", "bad": "&#10007;", "none": "?"}
 PIECE = re.compile(rf"(?P<comment>//[^\n]*)|(?P<other>[^\x00-\x7f]+)|{TOKEN.pattern}|.", re.S)
 
@@ -70,19 +70,19 @@ def word_label(variables: Sequence[str], word: Sequence[str]) -> str:
     return f"{said}; an instant is the digits of {' '.join(variables) or 'no variable'}"
 
 
-def behaviour(variables: Sequence[str], word: Sequence[str], marked: Optional[int] = None) -> str:
+def behaviour(variables: Sequence[str], word: Sequence[str], marked: Optional[int] = None, most: int = MOST_ROWS) -> str:
     """A behaviour as pictures, a row of instants in each; one that is too long for them, or has no variable, is a text."""
     rows = rows_svg(Behaviour("", variables, word, marked), WIDEST) if variables else []
     label = word_label(variables, word)
-    if not 0 < len(rows) <= MOST_ROWS:
+    if not 0 < len(rows) <= most:
         return tag("p", code(label.split(";")[0]))
     first = [picture(rows[0], label)] + [it.replace("<svg ", '<svg aria-hidden="true" ', 1).rstrip("\n") for it in rows[1:]]
     return scrolled("\n".join(first), "Behaviour")
 
 
-def figure(caption: str, variables: Sequence[str], word: Sequence[str], marked: Optional[int] = None) -> str:
+def figure(caption: str, variables: Sequence[str], word: Sequence[str], marked: Optional[int] = None, most: int = MOST_ROWS) -> str:
     """A behaviour below its caption, which is HTML."""
-    return captioned(f"{caption}, {instants(len(word))}", variables, behaviour(variables, word, marked))
+    return captioned(f"{caption}, {instants(len(word))}", variables, behaviour(variables, word, marked, most))
 
 
 def captioned(caption: str, variables: Sequence[str], pictures: str) -> str:

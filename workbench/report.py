@@ -11,7 +11,7 @@ from asked import Finding, Questions, Unanswered
 from glossary import glossary
 from joined import Requirement, joined, named, read_requirement
 from language import MOST_TEXT, read_text
-from nearby import near_names, read_signals, strange_names
+from nearby import near_names, strange_names
 from printer import print_pdf
 from program import Program, Refusal
 from questions import THREADS
@@ -22,8 +22,11 @@ from review import Review, reviewed, telling
 from revision import revision
 from sets import Answers, Survey, unknown_inputs
 from shapes import SourceFault
+from signals import read_signals
 from sources import load
 from streams import is_stream, write_text
+
+ALONE = {"alone": "whether it gets stuck"}  # the question that is left of one requirement whose verdict is known
 
 
 class Report:
@@ -43,7 +46,8 @@ class Report:
         found = Survey(self.requirements, self.asked, self.pool, self.inputs).run()
         found.near = list(near_names(self.requirements))
         if self.options.signals:
-            found.strange = list(strange_names(self.requirements, read_signals(read_text(self.options.signals, MOST_TEXT))))
+            listed = read_signals(read_text(self.options.signals, MOST_TEXT), self.options.signals)
+            found.strange = list(strange_names(self.requirements, [it.name for it in listed]))
         return found
 
     def chapters(self, answers: Answers) -> List[Chapter]:
@@ -62,7 +66,7 @@ class Report:
             source = read_text(it.path)
         except OSError:  # the fault of the requirement says so
             source = ""
-        unasked = list(dict.fromkeys(f"{what}: {why}" for members, what, why in answers.unasked if members == (it,)))
+        unasked = list(dict.fromkeys(f"{ALONE.get(what, what)}: {why}" for members, what, why in answers.unasked if members == (it,)))
         chapter = Chapter(it, anchor, source, glossary(source, self.options.signals), answers.alone[it],
                           [finding for finding in answers.findings if it in finding.members], it in answers.late, unasked)
         if it.fault is not None:
@@ -135,7 +139,8 @@ def run(options: argparse.Namespace, program: Program) -> int:
         apart = report.apart(answers)
     title = options.title or (chapters[0].title if len(chapters) == 1 else f"{len(chapters)} requirements")
     write_text(options.out, page(title, options.date, revision(program), chapters, answers, apart))
-    print(f"written: {options.out}: {len(chapters)} requirement{'s' * (len(chapters) != 1)}: {'all is well' if answers.is_well else 'not all is well'}")
+    print(f"written: {options.out}: {len(chapters)} requirement{'s' * (len(chapters) != 1)}: {'all is well' if answers.is_well else 'not all is well'}"
+          + (f"; not asked: {len(answers.unasked)}" if answers.unasked else ""))
     if options.pdf:
         print_pdf(os.path.abspath(options.out), os.path.abspath(options.pdf))
         print(f"written: {options.pdf}")

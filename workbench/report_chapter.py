@@ -9,7 +9,7 @@ from asked import Finding
 from automaton import Automaton
 from conditions import automaton_lines
 from joined import Requirement
-from markup import badge, behaviour, captioned, code, coloured, figure, figures, items, of_bytes, picture, prose, scrolled, table, tag
+from markup import FEW_ROWS, badge, behaviour, captioned, code, coloured, figure, figures, items, of_bytes, picture, prose, scrolled, table, tag
 from pictures import escaped
 from questions import Difference, Pair
 from review import Boundary, Miss, Review
@@ -53,7 +53,9 @@ class Chapter:
             return TOGETHER[self.together[0].kind]
         if kind:
             return STATUS[kind]
-        return ("none", "not decided") if self.unasked or self.review is None else ("ok", "well")
+        if self.review is None:
+            return "none", "not decided"
+        return ("none", "not all asked") if self.unasked else ("ok", "well")
 
     @property
     def link(self) -> str:
@@ -82,7 +84,7 @@ def chapter(it: Chapter, chapters: Sequence[Chapter], inputs: Sequence[str]) -> 
     if it.review:
         parts += [tag("h3", "Verdict"), *verdict(it, it.review, inputs), *signals(it, chapters), *boundaries(it.review), *misses(it.review),
                   *idle(it.review), *automaton(it, it.review.requirement.automaton_read), *tests(it.review.requirement.automaton_read)]
-    parts += [tag("h3", "Not asked"), items(list(map(escaped, it.unasked)))] if it.unasked else []
+    parts += [tag("h3", "Not asked"), items(list(map(escaped, it.unasked)))] if it.unasked and it.review else []
     return tag("section", "\n".join(parts), id=it.anchor)
 
 
@@ -162,7 +164,7 @@ def boundary(review: Review, it: Boundary) -> List[str]:
 def figure_of(review: Review, caption: str, word: Difference) -> str:
     if not isinstance(word, list):
         return tag("p", caption.split(":")[0] + ": over the limits of this question")
-    return figure(caption, review.requirement.variables, word)
+    return figure(caption, review.requirement.variables, word, most=FEW_ROWS)
 
 
 def misses(review: Review) -> List[str]:
@@ -178,7 +180,7 @@ def misses(review: Review) -> List[str]:
 
 def miss(variables: Sequence[str], it: Miss, pair: Pair) -> str:
     good, bad = pair
-    shown = [badge(kind, said) + behaviour(variables, word, it.instant) for kind, said, word in (("ok", "good", good), ("bad", "bad", bad))]
+    shown = [badge(kind, said) + behaviour(variables, word, it.instant, FEW_ROWS) for kind, said, word in (("ok", "good", good), ("bad", "bad", bad))]
     return captioned(f"{code(it.variable)} has to be {'true' if it.high else 'false'} at instant {it.instant}", variables, "\n".join(shown))
 
 

@@ -3,9 +3,11 @@
 
     workbench/tests/fuzz.py COUNT SEED        300 1 where they are not given
 """
+import argparse
 import itertools
 import os
 import random
+import re
 import sys
 import tempfile
 from concurrent.futures import ProcessPoolExecutor
@@ -22,9 +24,11 @@ from language import Tree, parse, to_text  # noqa: E402
 from logs import rows_of  # noqa: E402
 from operands import Question  # noqa: E402
 from explain import Explainer  # noqa: E402
-from pictures import vcd  # noqa: E402
+from pictures import GAP, HIGH, vcd  # noqa: E402
 from program import Program  # noqa: E402
 from questions import Requirement  # noqa: E402
+from report import Report  # noqa: E402
+from report_page import page  # noqa: E402
 from review import neighbours  # noqa: E402
 from sources import Source  # noqa: E402
 from tables import tables_of  # noqa: E402
@@ -34,6 +38,7 @@ from single import Watch, pieces  # noqa: E402
 from waves import check_columns, columns  # noqa: E402
 
 LETTERS = ("00", "01", "10", "11")
+PICTURE_TOP = 26 + GAP / 2  # of the first wave of a picture without a title
 Word = Tuple[str, ...]
 SHORT: List[Word] = [word for length in (1, 2, 3) for word in itertools.product(LETTERS, repeat=length)]
 
@@ -182,6 +187,38 @@ def judge_set(case: Case) -> None:
     if finding is not None and finding.kind == "stuck":
         assert all(satisfies(goal, finding.word[:length]) for goal in case.goals for length in range(1, len(finding.word) + 1))
     assert questions.follows([pair[0]], pair[1]) == (case.program.implies(*case.texts) is None)
+
+
+def waves_of(page: str, caption: str) -> List[str]:
+    """The word that the pictures below a caption show, read from their lines and the numbers above; nothing where there is no such caption."""
+    letters: List[str] = []
+    for row in re.findall(r"<svg.*?</svg>", page.partition(caption)[2].partition("</figure>")[0], re.S):
+        counts = [int(many or 1) for many in re.findall(r'class="note"[^>]*>(?:(\d+) more|\d+)<', row)]
+        waves: Dict[int, List[Tuple[float, bool]]] = {}
+        for place, y in re.findall(r"M([\d.]+) ([\d.]+)H", row):
+            wave, level = divmod(float(y) - PICTURE_TOP, HIGH + GAP)
+            waves.setdefault(int(wave), []).append((float(place), level == 0))
+        columns_of = zip(*("".join("01"[high] for _, high in sorted(waves[wave])) for wave in sorted(waves)))
+        letters += ["".join(column) for count, column in zip(counts, columns_of) for _ in range(count)]
+    return letters
+
+
+def judge_report(case: Case) -> None:
+    """The behaviours on the page, read from their pictures, do what is said of them by the definition."""
+    with tempfile.TemporaryDirectory() as room:
+        path = os.path.join(room, "a.dc")
+        with open(path, "w", encoding="ascii") as file:
+            file.write(case.texts[0])
+        options = argparse.Namespace(files=[path], inputs="", signals=None, brief=True)
+        with case.program.side_by_side(1) as questions, case.program.side_by_side(1) as sections:
+            report = Report(options, case.program, questions, sections)
+            answers = report.answers()
+            text = page("drawn", "", "nobody", report.chapters(answers), answers, {})
+    verdict = case.program.check(case.texts[0])
+    for caption, known, wanted in (("that breaks it", verdict.counterexample, False), ("that keeps to it", verdict.example, True)):
+        word = waves_of(text, caption)
+        assert bool(word) == bool(known)
+        assert not word or len(word) > 6 or satisfies(case.goals[0], word) == wanted
 
 
 def judge_verify(case: Case) -> None:

@@ -64,6 +64,8 @@ class Project(WithFolder):
         self.assertNotEqual(status, 0)
         self.assertRegex(out, r"dry, long and oil get stuck together")
         self.assertFalse(self.made("set.xml"))
+        self.assertNotEqual(self.make("report")[0], 0)
+        self.assertTrue(self.made("report.html") and not self.made("report.made"))
 
     def test_a_promise_that_is_not_enough(self):
         self.put("requirements/guard_strict.dc", "var guard_closed, motor; infer []([[motor && !guard_closed]] => slen < 4);")

@@ -118,7 +118,7 @@ class Report(WithFolder):
         self.assertIn("It gets stuck after 1 : no next instant keeps to it.", self.assert_whole(page).said)
         big = "var a, b; infer " + " && ".join(f"[]({{{{a}}}} ^ slen = {number} ^ <b> => scount a > {number})" for number in range(9, 500, 7)) + ";"
         page = self.page(*self.files({"big.dc": big}), "--brief")
-        self.assertIn("? not decided", self.assert_whole(page).said.replace("1 not", "not"))
+        self.assertIn("big ? not decided", self.assert_whole(page).said)
 
     def test_a_program_that_is_killed(self):
         """No page is written of what is no answer."""

@@ -31,6 +31,7 @@ PLANTED = (
     ("stuck", "program.words_of", lambda report: {"stuck": ["00"]}),
     ("implies", "program.words_of", lambda report: {"counterexample": ["00"]}),
     ("expand", "shapes.natural", lambda digits: 1),
+    ("report", "pictures._wave", lambda name, levels, *rest: []),
     ("draw", "fuzz.columns", lambda word: []),
     ("verify", "verify.ends_of", lambda diagram: {}),
 )
