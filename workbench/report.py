@@ -127,6 +127,7 @@ def run(options: argparse.Namespace, program: Program) -> int:
     if stream is not None:
         print(f"ask report: {stream} can be read once only; a report takes files", file=sys.stderr)
         return 5
+    os.environ["COLUMNS"] = "100"  # messages on the page are not as wide as a terminal
     program.command()  # built first, since without a program no fault is found
     with program.side_by_side(max(1, options.jobs)) as questions, program.side_by_side(THREADS) as sections:
         report = Report(options, program, questions, sections)

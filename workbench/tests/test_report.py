@@ -109,8 +109,9 @@ class Report(WithFolder):
         self.assert_whole(self.page(*files, os.fsencode(self.folder).decode() + "/\udce9.dc", status=1))
 
     def test_same_bytes(self):
-        files = self.files(SET)
-        self.assertEqual(self.page(*files, status=1), self.page(*files, "--jobs", "1", status=1))
+        """However many questions are asked at a time, and however wide the terminal is, in which messages are cut."""
+        files = self.files({**SET, "long.dc": "var p; infer [[p]]" + " && [[p]]" * 40 + " and p;"})
+        self.assertEqual(self.page(*files, status=1), self.page(*files, "--jobs", "1", status=1, COLUMNS="50"))
 
     def test_stuck_and_not_decided(self):
         """What gets stuck after one instant with p; and one that is over the least budget of nodes."""
