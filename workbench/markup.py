@@ -86,9 +86,10 @@ def figure(caption: str, variables: Sequence[str], word: Sequence[str], marked: 
 
 
 def captioned(caption: str, variables: Sequence[str], pictures: str) -> str:
-    """Pictures of behaviours below a caption; those that are higher than a printed page are parted between two of them."""
-    height = pictures.count("<svg ") * (HEAD + len(variables) * (HIGH + GAP))
-    return tag("figure", tag("figcaption", caption) + "\n" + pictures, class_="long" if height > HIGHEST else None)
+    """Pictures of behaviours below a caption; in print several of them that are high are parted between two."""
+    rows = pictures.count("<svg ")
+    is_long = rows > 1 and rows * (HEAD + len(variables) * (HIGH + GAP)) > HIGHEST
+    return tag("figure", tag("figcaption", caption) + "\n" + pictures, class_="long" if is_long else None)
 
 
 def figures(those: Iterable[str]) -> str:

@@ -3,7 +3,7 @@ import argparse
 import os
 import sys
 from concurrent.futures import ThreadPoolExecutor
-from typing import Dict, List, Optional, Sequence, Tuple
+from typing import Dict, Iterable, List, Optional, Sequence, Tuple
 
 import expand
 import faults
@@ -27,6 +27,8 @@ from sources import load
 from streams import is_stream, write_text
 
 ALONE = {"alone": "whether it gets stuck"}  # the question that is left of one requirement whose verdict is known
+WITH = {"impossible": "No behaviour satisfies it together with", "no first instant": "No first instant keeps to it and to",
+        "stuck": "It gets stuck together with", "unrealisable": "No controller keeps to it together with"}
 
 
 class Report:
@@ -51,14 +53,17 @@ class Report:
         return found
 
     def chapters(self, answers: Answers) -> List[Chapter]:
-        """A chapter for each requirement; what follows from what is linked in them."""
+        """A chapter for each requirement, with links to those that it has to do with."""
         found = [self.chapter(it, anchor, answers) for it, anchor in zip(self.requirements, anchors(self.requirements))]
         by_requirement = {it.it: it for it in found}
-        for left, right in answers.implied:
-            links = " and ".join(by_requirement[it].link for it in left)
-            by_requirement[right].related.append(f"It follows from {links}.")
-            if len(left) == 1:
-                by_requirement[left[0]].related.append(f"It implies {by_requirement[right].link}.")
+
+        def links(those: Iterable[Requirement]) -> str:
+            return " and ".join(by_requirement[it].link for it in those)
+
+        for it in found:
+            it.related += [f"{WITH[finding.kind]} {links(other for other in finding.members if other is not it.it)}." for finding in it.together]
+            it.related += [f"It implies {links([right])}." for left, right in answers.implied if left == (it.it,)]
+            it.related += [f"It follows from {links(left)}." for left, right in answers.implied if right is it.it]
         return found
 
     def chapter(self, it: Requirement, anchor: str, answers: Answers) -> Chapter:

@@ -33,7 +33,7 @@ h2{font-size:1.3rem;line-height:1.3;margin:0}
 h3{font-size:1rem;margin:1.8rem 0 .4rem;padding-bottom:.2rem;border-bottom:1px solid var(--line)}
 h4{font-size:.92rem;font-weight:600;margin:1rem 0 .2rem}
 h1,h2,h4,p,li,td,th,figcaption{overflow-wrap:anywhere}
-th[scope=row]{min-width:9rem}
+th[scope=row]{min-width:11.5rem}
 th code{white-space:nowrap}
 p{margin:.4rem 0 .7rem;max-width:46rem}
 a{color:var(--link)}
@@ -94,7 +94,7 @@ PRINT = """
  main>section,main>nav{border:0;border-top:1.5pt solid var(--ink);border-radius:0;padding:8pt 0;margin:12pt 0}
  h2,h3,h4,h3+p,figcaption,section>header,.sentence,.finding>p:first-child{break-after:avoid}
  pre{orphans:4;widows:4}
- svg,tr,table:not(.long),li,h4,figure:not(.long){break-inside:avoid}
+ svg,tr,table:not(.long),p,li,h4,.tests,figure:not(.long){break-inside:avoid}
  svg{max-width:100%;max-height:240mm}
  .scroll{overflow:visible}
  .figures{display:block}

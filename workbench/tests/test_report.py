@@ -98,6 +98,7 @@ class Report(WithFolder):
         for words in ("<b>Saw</b> 4 requirements, 2 signals, today & now", "✗ 2 contradiction", "✗ 1 fault", "✓ 1 well",
                       "strict (REQ-2) and opens (REQ-3) contradict each other: no behaviour satisfies both.",
                       "It keeps to opens, so it breaks strict, 1 instant", "strict (REQ-2) implies guard (REQ-1)", "It follows from strict (REQ-2) .",
+                      "No behaviour satisfies it together with opens (REQ-3) . It implies guard (REQ-1) .",
                       "the saw runs", "<script>alert(1)</script> & \"quoted\" 'text' ?[1m", "No fault is left if you write && for and."):
             self.assertIn(words, page.said)
         index = [attributes["href"] for name, attributes in page.elements if name == "a"][1:5]
