@@ -79,7 +79,7 @@ def chapter(it: Chapter, chapters: Sequence[Chapter], inputs: Sequence[str]) -> 
         parts += [tag("h3", "Text"), coloured(it.source)]
     if it.refusal:
         said = "The file has a fault." if it.it.fault is not None else "The program does not decide it."
-        lines = tag("pre", escaped("\n".join(it.refusal)), class_="scroll wrapped", tabindex=0, role="group", aria_label="Message")
+        lines = tag("pre", escaped("\n".join(it.refusal)), class_="scroll", tabindex=0, role="group", aria_label="Message")
         parts += [tag("h3", "Verdict"), tag("p", said), lines]
     if it.review:
         parts += [tag("h3", "Verdict"), *verdict(it, it.review, inputs), *signals(it, chapters), *boundaries(it.review), *misses(it.review),
@@ -202,7 +202,7 @@ def automaton(it: Chapter, found: Automaton) -> List[str]:
     if found.states > MOST_STATES:
         return [heading, tag("p", f"It has {states}: too many for this page. {code('./ask draw FILE --automaton')} prints them.")]
     if Diagram(found).size[0] > MOST_WIDTH:
-        return [heading, tag("pre", escaped("\n".join(automaton_lines(found))), class_="scroll wrapped", tabindex=0, role="group", aria_label="Automaton")]
+        return [heading, tag("pre", escaped("\n".join(automaton_lines(found))), class_="scroll", tabindex=0, role="group", aria_label="Automaton")]
     label = f"Automaton of {states}. " + "; ".join(" ".join(line.split()) for line in automaton_lines(found))
     drawn = picture(automaton_svg(found, states, f"{it.anchor}-arrow", is_styled=False), label)
     legend = "Green: it holds so far. Gray: it does not hold yet. Red: it is broken for ever; where that is another state, it is in the box."

@@ -55,7 +55,6 @@ main>section,main>nav{margin:2rem 0;padding:1.2rem 1.5rem 1.4rem;border:1px soli
 section>header{display:flex;flex-wrap:wrap;gap:.3rem .9rem;align-items:center}
 .sentence{font-size:1.06rem;margin-top:.5rem}
 pre{background:var(--wash);border:1px solid var(--line);border-radius:.5rem;padding:.7rem .9rem;margin:.5rem 0;line-height:1.5}
-pre.wrapped{white-space:pre-wrap}
 pre .word{color:var(--word);font-weight:600}
 pre .comment{color:var(--comment);font-style:italic}
 pre .digits{color:var(--digits)}
