@@ -144,6 +144,30 @@ class Passes(WithFolder):
             self.assertEqual((status, out), (8, ""), header)
             self.assertIn(message, err)
 
+    def test_where_an_unknown_name_comes_from(self):
+        """The requirement's file is named, with the list of signals; and the signal, where a column is missing that it is made of."""
+        fan = self.file("fan.dc", "var hot, fan;\ninfer [[hot => fan]];\n")
+        table, dump = self.file("a.csv", "t,fan\n0,1\n"), self.file("a.vcd", "$var wire 1 ! fan $end\n$enddefinitions $end\n#0\n1!\n")
+        other, made, plain = self.file("s1", "fan\n"), self.file("s2", "fan\nhot = degrees > 60\n"), self.file("s3", "hot // degrees\n")
+        for words, told in (((), f"hot is a variable of {fan}"), (("--signals", other), f"hot is a variable of {fan}; {other} does not list it"),
+                            (("--signals", made), f"hot is made of it ({made}:2)"), (("--column", "hot=warm"), f"hot is a variable of {fan}"),
+                            (("--signals", plain), f"hot is a variable of {fan}; {plain}:1 lists it as a column")):
+            for log in (table, dump):
+                for call in ((fan, "--log", log), (fan, log)):
+                    status, out, err = self.ask(*call, *words)
+                    self.assertEqual((status, out), (8, ""), err)
+                    self.assertTrue(err.endswith(f"; {told}\n"), err)
+
+    def test_glossary(self):
+        """The meaning that a requirement's file gives a name comes before that of the list of signals."""
+        fan = self.file("fan.dc", "// fan: of the cabinet\nvar hot, fan;\ninfer [[hot => fan]];\n")
+        signals = self.file("signals.txt", "hot = degrees > 60  // the upper sensor\nfan  // any\nother // none\n")
+        log = self.file("a.csv", "t,degrees,fan\n0,61,0\n")
+        for call in ((fan, "--log", log), (fan, log)):
+            out = self.ask(*call, "--signals", signals)[1]
+            self.assertIn("\n      hot = degrees > 60 // the upper sensor\n      fan // of the cabinet\n", out)
+            self.assertNotIn("other", out)
+
     def test_other_formats_are_named(self):
         for begin, message in (("MDF     4.10", "asammdf"), ("\0\0\0\0\0\0\0\1I", "fst2vcd"), ("\xff\xfet\0", "iconv"), ("\x1f\x8b\x08cut", "gzip file is")):
             status, out, err = self.ask(RESPONSE, "--log", self.file("a.log", begin))

@@ -44,12 +44,21 @@ class Waves(unittest.TestCase):
         self.assertEqual(spoken_runs("1" * 4025 + "00"), "1 at 0 .. 4024, 0 from 4025")
 
 
-class Pictures(unittest.TestCase):
+class Pictures(WithFolder):
     def test_svg(self):
         text = waves_svg([("a < b & c", ["p", "q"], FOLDED, True), ("without variables", [], ["-"] * 3, False)])
         xml.dom.minidom.parseString(text)
         self.assertNotIn("<script", text)
         self.assertIn("10 more", text)
+
+    @needs_program
+    def test_glossary(self):
+        fan, signals = self.file("fan.dc", "var hot, fan; // of all\ninfer [[hot => fan]];\n"), self.file("signals.txt", "hot // above 60\nidle // no\n")
+        trace = self.file("a.trace", "10\n")
+        for words in ((fan,), (fan, "--automaton"), (trace, "--names", "hot,fan")):
+            out = run("ask", "draw", *words, "--signals", signals)[1]
+            self.assertTrue(out.endswith("\n\n  hot: above 60\n"), out)
+        self.assertNotIn("above", run("ask", "draw", fan)[1])
 
     def test_vcd(self):
         """Read back by its own rules, the dump says the word."""
