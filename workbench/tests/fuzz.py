@@ -30,7 +30,7 @@ from sources import Source  # noqa: E402
 from tables import tables_of  # noqa: E402
 from test_verify import drawn, holds  # noqa: E402
 from verify import Check, asked  # noqa: E402
-from watch import Watch, pieces  # noqa: E402
+from single import Watch, pieces  # noqa: E402
 from waves import check_columns, columns  # noqa: E402
 
 LETTERS = ("00", "01", "10", "11")
