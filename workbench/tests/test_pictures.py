@@ -66,6 +66,7 @@ class Pictures(WithFolder):
             out = run("ask", "draw", *words, "--signals", signals)[1]
             self.assertTrue(out.endswith("\n\n  hot: above 60\n"), out)
         self.assertNotIn("above", run("ask", "draw", fan)[1])
+        self.assertTrue(run("ask", "review", fan, "--signals", signals)[1].endswith("\n\nWhat do the names mean?\n  hot: above 60\n"))
 
     def test_vcd(self):
         """Read back by its own rules, the dump says the word."""
