@@ -8,7 +8,7 @@ import time
 import unittest
 import xml.etree.ElementTree as xml
 
-from support import PROGRAM, ROOT, WithFolder, needs_program, run
+from support import PROGRAM, ROOT, WithFolder, here, needs_program, run
 
 NAMES = ("response", "never_both", "toggle", "separation", "minimum_duration", "alternation", "at_most", "always", "lift_door", "valve_held")
 FILES = [os.path.join(ROOT, "examples", name + ".dc") for name in NAMES]
@@ -61,7 +61,7 @@ class Passes(WithFolder):
             found = self.results(out)
             statuses = []
             for name, path in zip(NAMES, FILES):
-                each, said, _ = self.ask(path, log)
+                each, said = here("watch", path, log)
                 statuses.append(each)
                 self.assertEqual(found[name], said.splitlines()[0].split(";")[0])
                 rows = [line.split() for line in said[:said.find("\n", said.find("-->"))].splitlines()[1:]]
@@ -75,7 +75,7 @@ class Passes(WithFolder):
             out = self.ask(*FILES, "--log", log, "--rearm", "--json")[1]
             events = [json.loads(line) for line in out.splitlines()]
             for name, path in zip(NAMES, FILES):
-                said = self.ask(path, log, "--rearm")[1]
+                said = here("watch", path, log, "--rearm")[1]
                 wanted = [int(line.split()[1].strip(",")) for line in said.splitlines() if line.startswith("  instant ") and ", row " in line]
                 told = [it["instant"] for it in events if it["event"] == "broken" and it["requirement"] == name]
                 self.assertEqual(told[:100], wanted)
