@@ -9,9 +9,15 @@ A run may take 100 s of processor time and 2 GB of address space. The columns ar
     dense               a chop whose sets have half of 29,900 states
     gap                 a chop after a gap: the sets of a window, before a parity of sixteen variables
     joins               a count of a parity, joined with atoms that look at some of its variables
-    waiting N           N operands of 15 MB or more that all wait for the innermost one
+    waiting N           N large operands that all wait for the innermost one
 
-@FIGURES@
+The last figures: 1 December 2026, an unproved build, an Intel Xeon at 2.5 GHz with a load of 13 to 29 on its four processors. `waiting 80` was begun and
+not ended: with this load its 100 s of processor time took more than the time that there was.
+
+  dense            56 bytes     4.4 s   1711.1 MB  not valid
+  gap             211 bytes    80.6 s    600.1 MB  not valid
+  joins           311 bytes     4.5 s     63.9 MB  not valid
+  waiting 20     2485 bytes    50.0 s   1031.4 MB  fault memory
 """
 import os
 import random
