@@ -11,6 +11,7 @@ from arcs import MOST_STATES, automaton_svg
 from automaton import Automaton, read_automaton
 from conditions import automaton_lines
 from expand import Text
+from glossary import glossary
 from language import MOST_TEXT, Fault, parse, read_text
 from pictures import Behaviour, vcd, waves_svg
 from program import Program
@@ -30,6 +31,7 @@ def add_arguments(parser: argparse.ArgumentParser) -> None:
     parser.add_argument("--automaton", action="store_true", help="of a formula: its automaton, not its behaviours")
     parser.add_argument("--only", choices=("counterexample", "example"), help="one of the two behaviours")
     parser.add_argument("--names", metavar="NAMES", help="the variables of a report or a trace, as request,grant, or a formula file that declares them")
+    parser.add_argument("--signals", metavar="LIST", help="a file of signals, whose comments say what the variables mean")
 
 
 def run(options: argparse.Namespace, program: Program) -> int:
@@ -111,10 +113,12 @@ def draw_behaviours(found: Sequence[Behaviour], options: argparse.Namespace) -> 
         return written(options.svg, waves_svg(found))
     if options.vcd:
         return written(options.vcd, vcd(found[0].variables, found[0].word))
+    said = meanings(found[0].variables, options)
     for number, (title, variables, word, _) in enumerate(found):
         print(("\n" if number else "") + title)
         for line in table(variables, word) if options.table else waves(variables, word):
             print(f"  {line}".rstrip())
+    print("".join(line + "\n" for line in said), end="")
     return 0
 
 
@@ -126,10 +130,20 @@ def draw_automaton(automaton: Automaton, name: str, options: argparse.Namespace)
         raise NotDrawn(f"this automaton has {states}; those of more than {MOST_STATES} are tables: leave out --svg")
     if options.svg:
         return written(options.svg, automaton_svg(automaton, f"{name}: {states}; green: the requirement holds so far"))
+    said = meanings(automaton.variables, options)
     print(f"{name}: {states}")
     for line in automaton_lines(automaton):
         print(f"  {line}")
+    print("".join(line + "\n" for line in said), end="")
     return 0
+
+
+def meanings(variables: Sequence[str], options: argparse.Namespace) -> List[str]:
+    """The glossary of the variables, by the comments of the file and of the list of signals."""
+    text = read_text(options.file, MOST_TEXT)
+    found = glossary(text + f"\nvar {', '.join(variables)};\n", options.signals)
+    lines = [f"  {name}: {found[name]}" for name in variables if name in found]
+    return ["", *lines] if lines else []
 
 
 def written(path: str, text: str) -> int:

@@ -5,7 +5,7 @@ from dataclasses import dataclass, field, replace
 from typing import Callable, Dict, FrozenSet, Iterable, Iterator, List, Optional, Sequence, Tuple
 
 import limits
-from glossary import sentence_of
+from glossary import glossary, sentence_of
 from language import File, Tree, parse, read_text, to_text
 
 MOST_NAMES = limits.VARIABLES
@@ -22,6 +22,7 @@ class Requirement:
     file: Optional[File] = None
     id: str = ""  # of its leading comment, as REQ-4711: in front of the sentence
     sentence: str = ""
+    meanings: Dict[str, str] = field(default_factory=dict)  # of its names, as its comments say
     lines: Dict[Tuple[str, int], List[str]] = field(default_factory=dict)  # its macros, as they stand with others
     words: FrozenSet[str] = frozenset()  # all names that occur in it, but those of macros
 
@@ -105,10 +106,11 @@ def read_requirement(name: str, path: str, expanded: Callable[[str], Tuple[Optio
     """A requirement of the set; `expanded(path)` gives the text in the language and the lines of a fault, one of both None."""
     try:
         text, fault = expanded(path)
-        head = heading_of(read_text(path).encode("latin-1").decode("utf-8", "replace")) if path else ("", "")
+        own = read_text(path) if path else ""
     except OSError as error:
-        text, fault, head = None, [f"{path}: {error.strerror}"], ("", "")
+        text, fault, own = None, [f"{path}: {error.strerror}"], ""
+    head = heading_of(own.encode("latin-1").decode("utf-8", "replace"))
     if text is None:
         return Requirement(name, path, fault=fault, id=head[0], sentence=head[1])
     file = parse(text)
-    return Requirement(name, path, text, fault, file, *head, words=words_of(file))
+    return Requirement(name, path, text, fault, file, *head, glossary(own), words=words_of(file))

@@ -9,6 +9,7 @@ import limits
 import review_report
 from answers import Word
 from expand import Text
+from glossary import glossary
 from language import Tree, to_text
 from names import expand
 from program import Program
@@ -227,11 +228,13 @@ def reviewed(requirement: Requirement, pool: ThreadPoolExecutor) -> Review:
 
 def add_arguments(parser: argparse.ArgumentParser) -> None:
     parser.add_argument("file", metavar="FILE")
+    parser.add_argument("--signals", metavar="LIST", help="a file of signals, whose comments say what the variables mean")
 
 
 def run(options: argparse.Namespace, program: Program) -> int:
     whole = Text(options.file, options.shown)
+    found = glossary(whole.source.text, options.signals)
     with program.side_by_side(THREADS) as questions, program.side_by_side(THREADS) as outer:
         answers = reviewed(Requirement(program, whole, questions), outer)
-    print("\n".join(review_report.lines(answers, options.shown)))
+    print("\n".join([*review_report.lines(answers, options.shown), *review_report.names(answers.requirement.variables, found)]))
     return 0

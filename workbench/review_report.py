@@ -1,5 +1,5 @@
 """The answers of `review` as lines: each question, and below it what was found."""
-from typing import TYPE_CHECKING, Iterator, List, Sequence, Tuple
+from typing import TYPE_CHECKING, Iterator, List, Mapping, Sequence, Tuple
 
 import limits
 from program import Verdict
@@ -64,6 +64,12 @@ def idle_line(it: Idle) -> str:
         return f"{it.line}: {it.part} is {it.value}, whatever its variables do"
     line = f"{it.line}: {it.part} may be {it.value} and the meaning is the same" + (f": {it.why}" if it.why else "")
     return line + (f" (it is there for the budget: a step has {it.states} states without it, and {it.most} with it)" if it.states else "")
+
+
+def names(variables: Sequence[str], meanings: Mapping[str, str]) -> List[str]:
+    """The glossary of the variables."""
+    found = [f"  {name}: {meanings[name]}" for name in variables if name in meanings]
+    return ["", "What do the names mean?", *found] if found else []
 
 
 def lines(review: "Review", shown: str) -> Iterator[str]:

@@ -1,9 +1,14 @@
 """What the tests share: the program, where there is one, and runs of ./ask and ./explain."""
+import contextlib
+import io
 import os
 import subprocess
 import tempfile
 import unittest
 from concurrent.futures import ThreadPoolExecutor
+
+import main
+from program import Program
 
 ROOT = os.path.dirname(os.path.dirname(os.path.dirname(os.path.abspath(__file__))))
 BUILT = os.path.join(ROOT, "crates", "dcvalid", "out", "dcvalid")
@@ -23,6 +28,14 @@ def run(script, *words, stdin="", program=None, **variables):
     done = subprocess.run([os.path.join(ROOT, script), *words], input=stdin.encode("latin-1"), env=environment, stdout=subprocess.PIPE,
                           stderr=subprocess.PIPE)
     return done.returncode, done.stdout.decode(), done.stderr.decode()
+
+
+def here(*words):
+    """The status and output of a command of ./ask that has an answer, without the start of a Python."""
+    out = io.StringIO()
+    with contextlib.redirect_stdout(out):
+        status = main.dispatched(list(words), Program(PROGRAM))
+    return status, out.getvalue()
 
 
 def each(question, cases):

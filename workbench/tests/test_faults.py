@@ -1,7 +1,10 @@
 """Faults as ./explain says them: the place, the hint, what may stand there, and the one change. The rows are worked out by hand."""
+import contextlib
+import io
 import os
 import re
 
+import explain
 import faults
 import repairs
 import support
@@ -105,10 +108,18 @@ class Faults(WithFolder):
         self.assertEqual((status, output), (3, ""), text)
         return error.splitlines()
 
+    def in_this_process(self, path):
+        """What `explain check` does, without the start of a Python for each file."""
+        streams = io.StringIO(), io.StringIO()
+        with contextlib.redirect_stdout(streams[0]), contextlib.redirect_stderr(streams[1]):
+            status = explain.main(["check", path], Program())
+        return (status, *(stream.getvalue() for stream in streams))
+
     def test_places(self):
         paths = [self.file(f"text{number}.dc", row[0]) for number, row in enumerate(PLACES)]
         plain = support.each(lambda path: run(os.path.abspath(support.PROGRAM), "check", path), paths)
-        said = support.each(lambda path: run("explain", "check", path), paths)
+        said = [self.in_this_process(path) for path in paths]
+        self.assertEqual(run("explain", "check", paths[0]), said[0])
         for (text, kind, offset, row, column, hint), path, answer, explained in zip(PLACES, paths, plain, said):
             with self.subTest(text=text):
                 self.assertEqual((answer[0], answer[2].strip()), (3, f"fault {kind} at {offset}"))

@@ -42,7 +42,7 @@ class Project(WithFolder):
         status, out = self.make("watch")
         self.assertNotEqual(status, 0)
         self.assertIn("broken at instant 59, row 59", out)
-        self.assertFalse(self.made("bad.oil.watched"))
+        self.assertFalse(self.made("bad.watched"))
 
     def test_what_is_no_answer_is_not_kept(self):
         self.put("requirements/fault.dc", "var p; infer [[p;\n")
