@@ -34,6 +34,7 @@ ASK = (
     Command("tests", "FILE", "a test suite that tells the requirement from every other of as many states"),
     Command("watch", "FILE LOG", "a log, recorded or live, against one requirement or many, by the names of their variables"),
     Command("tables", "FILE", "an observer as C tables for several instances, or several requirements that share the code"),
+    Command("export", "FILE", "the automaton as DOT, HOA, JSON or a monitor in Verilog; or a controller in Verilog"),
     Command("patterns", "[NAME]", "the patterns of requirements with their sentences, or one of them in full"),
     Command("pattern", "NAME ..", "a requirement made from a pattern, its propositions and its numbers"),
     Command("expand", "FILE", "a file with constants, sums, numbers as arguments and use, as a file of the language"),

@@ -22,10 +22,11 @@ if BEGUN:
 # A command, what of the workbench is another thing, and what it is.
 PLANTED = (
     ("tests", "suite.answers_of", lambda automaton, word: [0] * len(word)),
-    ("watch", "watch.Watch.go_on", lambda watch, word: None),
+    ("watch", "monitors.Monitor.by_rows", lambda monitor, codes: iter(())),
     ("explain", "explain.words_of", lambda report: {}),
     ("set", "asked.Questions.refuted", lambda questions, left, right: True),
     ("automaton", "tables.Tables.leaf", lambda tables, place, letter: 0),
+    ("export", "omega.paths", lambda row: [(0, ())]),
     ("review", "questions.Requirement.put", lambda requirement, start, end, new: requirement.text),
     ("check", "program.words_of", lambda report: {"counterexample": ["00"], "example": ["00"]}),
     ("stuck", "program.words_of", lambda report: {"stuck": ["00"]}),
