@@ -36,11 +36,11 @@ def row(room: str, number: int, seconds: float) -> List[str]:
     with open(os.path.join(ROOT, "examples", "response.dc")) as source, open(path, "w") as file:
         file.write(source.read().replace("slen >= 3", f"slen >= {number}"))
     ask = [os.path.join(ROOT, "ask"), "export", path, "--to"]
-    cells = []
-    for words in (["hoa"], ["json"]):
-        took = timed([*ask, *words], out)
+    cells, states = [], 0
+    for to in ("hoa", "json"):
+        took = timed([*ask, to], out)
         cells.append(f"{os.path.getsize(out):,} bytes, {took}")
-        states = len(re.findall(r"^State: ", open(out).read(), re.M)) - 2 if words == ["hoa"] else states
+        states = states or len(re.findall(r"^State: ", open(out).read(), re.M)) - 2
     for form in ("cases", "tables"):
         module, stat = os.path.join(room, f"{form}.v"), os.path.join(room, "stat")
         took = timed([*ask, "verilog", "--form", form, "--module", "measured"], module)

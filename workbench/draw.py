@@ -45,7 +45,7 @@ def run(options: argparse.Namespace, program: Program) -> int:
             return draw_automaton(program.automaton(text), name, options)
         found = behaviours(kind, text, name, options, program)
         if options.only:
-            found = [it for it in found if it[3] == (options.only == "counterexample")]
+            found = [it for it in found if (it.marked is not None) == (options.only == "counterexample")]
         return draw_behaviours(found, options)
     except NotDrawn as reason:
         print(f"ask draw: {reason}", file=sys.stderr)
@@ -56,12 +56,12 @@ def run(options: argparse.Namespace, program: Program) -> int:
 
 
 def behaviours(kind: Optional[str], text: str, name: str, options: argparse.Namespace, program: Program) -> List[Behaviour]:
-    """Behaviours with their titles and variables, and whether each is a counterexample."""
+    """Behaviours with their titles and variables; of a counterexample the last instant is marked."""
     variables: Optional[List[str]] = None
     comparison: Optional[str] = None
     if kind == "a trace":
         trace = text.split()
-        return [(f"{name}, {len(trace)} instants", names(options, trace), trace, False)]
+        return [Behaviour(f"{name}, {len(trace)} instants", names(options, trace), trace)]
     if kind in ("a report of check", "a report of all", "a report of implies"):
         found = words_of(text.split("--- automaton")[0])
         declared = re.search(r"^variables (.*)$", text, re.M)
@@ -73,8 +73,9 @@ def behaviours(kind: Optional[str], text: str, name: str, options: argparse.Name
         variables = list(parse(text).variables)
     else:
         raise NotDrawn(f"{name} is {kind}, of which there is no picture")
-    return [(f"{name}: " + heading("a shortest behaviour that " + (comparison or ("breaks it" if what == "counterexample" else "meets it")), word)[:-1],
-             names(options, word) if variables is None else [it for it in variables if it != "-"], word, what == "counterexample")
+    return [Behaviour(f"{name}: " + heading("a shortest behaviour that " + (comparison or ("breaks it" if what == "counterexample" else "meets it")), word)[:-1],
+                      names(options, word) if variables is None else [it for it in variables if it != "-"], word,
+                      len(word) - 1 if what == "counterexample" else None)
             for what, word in found.items()]
 
 
@@ -109,7 +110,7 @@ def draw_behaviours(found: Sequence[Behaviour], options: argparse.Namespace) -> 
     if options.svg:
         return written(options.svg, waves_svg(found))
     if options.vcd:
-        return written(options.vcd, vcd(found[0][1], found[0][2]))
+        return written(options.vcd, vcd(found[0].variables, found[0].word))
     for number, (title, variables, word, _) in enumerate(found):
         print(("\n" if number else "") + title)
         for line in table(variables, word) if options.table else waves(variables, word):

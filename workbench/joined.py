@@ -5,6 +5,7 @@ from dataclasses import dataclass, field, replace
 from typing import Callable, Dict, FrozenSet, Iterable, Iterator, List, Optional, Sequence, Tuple
 
 import limits
+from glossary import sentence_of
 from language import File, Tree, parse, read_text, to_text
 
 MOST_NAMES = limits.VARIABLES
@@ -95,12 +96,7 @@ def joined(requirements: Sequence[Requirement], names: Optional[Sequence[str]] =
 
 def heading_of(text: str) -> Tuple[str, str]:
     """The id and the sentence in the leading comment of a file, as in `// REQ-4711: The door stays locked.`"""
-    lines = []
-    for line in text.splitlines():
-        if not line.startswith("//"):
-            break
-        lines.append(line[2:].strip())
-    said = " ".join(lines).strip()
+    said = sentence_of(text)
     match = re.match(r"([A-Za-z][\w.]*[-_.]\d[\w.-]*|[A-Z]+\d[\w.-]*):\s*", said, re.A)
     return (match.group(1), said[match.end():]) if match else ("", said)
 

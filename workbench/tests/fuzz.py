@@ -3,15 +3,12 @@
 
     workbench/tests/fuzz.py COUNT SEED        300 1 where they are not given
 """
-import io
 import itertools
-import json
 import os
 import random
 import sys
 import tempfile
 from concurrent.futures import ProcessPoolExecutor
-from contextlib import redirect_stdout
 from typing import Callable, Dict, List, Sequence, Tuple
 
 HERE = os.path.dirname(os.path.abspath(__file__))
@@ -20,13 +17,12 @@ import exports  # noqa: E402
 import interchange  # noqa: E402
 import omega  # noqa: E402
 import suite  # noqa: E402
-import watch  # noqa: E402
-from commands import command_of, parser_of  # noqa: E402
 from asked import Questions  # noqa: E402
 from expand import Text  # noqa: E402
 from expansion import Expansion  # noqa: E402
 from joined import read_requirement  # noqa: E402
 from language import Tree, parse, to_text  # noqa: E402
+from logs import rows_of  # noqa: E402
 from operands import Question  # noqa: E402
 from explain import Explainer  # noqa: E402
 from pictures import vcd  # noqa: E402
@@ -37,9 +33,9 @@ from sources import Source  # noqa: E402
 from tables import tables_of  # noqa: E402
 from test_verify import drawn, holds  # noqa: E402
 from verify import Check, asked  # noqa: E402
+from single import Watch, pieces  # noqa: E402
 from waves import check_columns, columns  # noqa: E402
 
-WATCH = command_of("watch")
 LETTERS = ("00", "01", "10", "11")
 Word = Tuple[str, ...]
 SHORT: List[Word] = [word for length in (1, 2, 3) for word in itertools.product(LETTERS, repeat=length)]
@@ -134,26 +130,18 @@ def judge_tests(case: Case) -> None:
 
 
 def judge_watch(case: Case) -> None:
-    """From a dump and from a CSV file in pieces of 3 rows: the first instant at which it is broken, and all where it begins anew after each."""
-    ends, start = [], 0
-    for length in range(1, 7):
-        if not satisfies(case.goals[0], case.word[start:length]):
-            ends.append(length - 1)
-            start = length
+    """From a dump in pieces of 3 rows, and from a CSV file in one."""
+    broken = [length for length in range(1, 7) if not satisfies(case.goals[0], case.word[:length])]
     with tempfile.TemporaryDirectory() as room:
-        logs = {"a.dc": case.texts[0], "a.vcd": vcd("pq", case.word), "a.csv": "q,p\n" + "".join(f"{letter[1]},{letter[0]}\n" for letter in case.word)}
-        paths = {name: os.path.join(room, name) for name in logs}
-        for name, text in logs.items():
-            with open(paths[name], "w", encoding="ascii") as file:
+        for name, text in (("a.vcd", vcd("pq", case.word)), ("a.csv", "q,p\n" + "".join(f"{letter[1]},{letter[0]}\n" for letter in case.word))):
+            path = os.path.join(room, name)
+            with open(path, "w", encoding="ascii") as file:
                 file.write(text)
-        for words in ([paths["a.vcd"], "--period", "1"], [paths["a.csv"], "--piece", "3"]):
-            for again in ([], ["--rearm"]):
-                options = parser_of(WATCH).parse_args([paths["a.dc"], "--json", *again, "--log", *words])
-                options.shown = options.file
-                with redirect_stdout(io.StringIO()) as out:
-                    watch.run(options, case.program)
-                events = [json.loads(line) for line in out.getvalue().splitlines()]
-                assert [it["instant"] for it in events if it["event"] == "broken"] == (ends if again else ends[:1]), words
+            rows = rows_of(path, ["p", "q"], {}, period=1 if name == "a.vcd" else None)
+            watch = Watch(case.program, case.texts[0], False)
+            for part, last in pieces(rows, 3 if name == "a.vcd" else 6):
+                watch.piece(part, last)
+            assert [at + 1 for at, _, _ in watch.violations] == broken and watch.count == 6, name
 
 
 def judge_draw(case: Case) -> None:

@@ -3,6 +3,7 @@ import os
 import re
 
 import faults
+import repairs
 import support
 from program import Program
 from support import WithFolder, needs_program, run
@@ -139,6 +140,20 @@ class Faults(WithFolder):
         lines = self.explained("var p; infer [[p]]" + " " * 200_000 + "[[p]];")
         self.assertLess(max(map(len, lines)), 200)
         self.assertEqual(lines[1][lines[2].index("^"):][:5], "[[p]]")
+
+    def test_repaired_texts(self):
+        """One likely change alone, or each that fits, in texts that the program takes."""
+        rows = (
+            ("var p; infer [[p and p]];", [("write && for and", "var p; infer [[p && p]];")]),
+            ("var pump; infer <pmp>;", [("write pump for pmp", "var pump; infer <pump>;")]),
+            ("var p; infer <p>;;", [("leave out ;", "var p; infer <p>; ")]),
+        )
+        program = Program(support.PROGRAM)
+        for text, wanted in rows:
+            fault = program.fault(text)
+            tokens = repairs.may_stand(program, text, fault.place) if fault.kind == "syntax" else []
+            found = repairs.repairs(program, text, fault, tokens)
+            self.assertEqual([(it.phrase, it.text) for it in found], wanted)
 
     def test_changes_are_told_by_the_script(self):
         self.assertIn("  No fault is left if you write && for and.", self.explained("var p, q; infer [[p and q]];"))

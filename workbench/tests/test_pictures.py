@@ -7,7 +7,7 @@ import xml.dom.minidom
 import pages
 from commands import ASK, PROGRAM
 from conditions import conditions
-from pictures import vcd, waves_svg
+from pictures import COLOURS, Behaviour, vcd, waves_svg
 from program import Program
 from support import WithFolder, examples, needs_program, run
 from waves import Column, HiddenChange, columns, in_line, spoken_runs, waves
@@ -46,10 +46,17 @@ class Waves(unittest.TestCase):
 
 class Pictures(unittest.TestCase):
     def test_svg(self):
-        text = waves_svg([("a < b & c", ["p", "q"], FOLDED, True), ("without variables", [], ["-"] * 3, False)])
-        xml.dom.minidom.parseString(text)
+        """The colours come with the picture, or are left to a page; the marked instant is a column of its own in a fold of three."""
+        text = waves_svg([Behaviour("a < b & c", ["p", "q"], FOLDED, 15), Behaviour("without variables", [], ["-"] * 3)])
+        document = xml.dom.minidom.parseString(text)
         self.assertNotIn("<script", text)
         self.assertIn("10 more", text)
+        said = [it.firstChild.data for it in document.getElementsByTagName("text")]
+        self.assertEqual(said[said.index("14"):said.index("17") + 1], ["14", "15", "16", "17"])
+        kinds = {it.getAttribute("class") for name in ("rect", "text", "path", "line") for it in document.getElementsByTagName(name)}
+        self.assertLessEqual({"mark", "high", "high-folded", "line", "title"}, kinds)
+        self.assertLessEqual(kinds, COLOURS.keys())
+        self.assertNotIn("#", waves_svg([Behaviour("", ["p", "q"], FOLDED)], is_styled=False))
 
     def test_vcd(self):
         """Read back by its own rules, the dump says the word."""
