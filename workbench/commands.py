@@ -38,6 +38,7 @@ ASK = (
     Command("patterns", "[NAME]", "the patterns of requirements with their sentences, or one of them in full"),
     Command("pattern", "NAME ..", "a requirement made from a pattern, its propositions and its numbers"),
     Command("expand", "FILE", "a file with constants, sums, numbers as arguments and use, as a file of the language"),
+    Command("serve", "", "a language server over standard input and output, for an editor"),
     Command("set", "FILE ..", "several requirements together: contradictions, where they get stuck, what follows from the others"),
     Command("register", "TABLE", "a table of requirements (id;sentence;pattern;arguments) as a folder of files, and a folder as a table"),
     Command("verify", "FILE", "the program's answers checked step by step, by a script that trusts neither its proofs nor its compiler"),
