@@ -1,12 +1,13 @@
 """A small client of language servers, for tests: it starts ./ask serve, and keeps what the server sends."""
 import json
 import os
+import re
 import subprocess
 import threading
 
 from support import PROGRAM, ROOT
 
-SECONDS = 15  # that a test waits for an answer at most
+SECONDS = 60  # that a test waits for an answer at most
 
 
 class Client:
@@ -14,7 +15,8 @@ class Client:
         environment = {**os.environ, "DCVALID": program or PROGRAM or ""}
         self.process = subprocess.Popen([os.path.join(ROOT, "ask"), "serve"], stdin=subprocess.PIPE, stdout=subprocess.PIPE, stderr=subprocess.PIPE, env=environment)
         self.number, self.answers, self.notes, self.changed = 0, {}, [], threading.Condition()
-        threading.Thread(target=self.listen, daemon=True).start()
+        self.listener = threading.Thread(target=self.listen, daemon=True)
+        self.listener.start()
         completion = {"completionItem": {"snippetSupport": snippets}}
         self.started = self.ask("initialize", {"processId": None, "rootUri": None, "initializationOptions": {"delay": 0, **options},
                                                "capabilities": {"textDocument": {"completion": completion}}})
@@ -84,13 +86,11 @@ class Client:
         return self.ask(f"textDocument/{kind}", {"textDocument": {"uri": uri}, "position": {"line": line, "character": character}, **more})
 
     def lens(self, uri):
-        """The verdict at the goal, waited for until it is whole."""
-        def whole():
+        """The verdict at the goal, waited for until it is whole: of a requirement that may be broken its parts are three, and else two."""
+        title = ""
+        while not re.match(r"not valid:.*;.*;|valid:.*;|no behaviour.*;|over|not decided", title):
             found = self.at("codeLens", uri)
-            return found[0]["command"]["title"] if found else ""
-        title = whole()
-        while "being decided" in title or title.startswith("not valid") and title.count(";") < 2:
-            title = whole()
+            title = found[0]["command"]["title"] if found else ""
         return title
 
     def end(self):
@@ -98,7 +98,12 @@ class Client:
         self.ask("shutdown", None)
         self.note("exit", None)
         status = self.process.wait(SECONDS)
-        error = self.process.stderr.read()
+        return status, self.process.stderr.read()
+
+    def close(self):
+        """Ends the server whatever happened before."""
+        self.process.kill()
+        self.process.wait()
+        self.listener.join()
         for stream in (self.process.stdin, self.process.stdout, self.process.stderr):
             stream.close()
-        return status, error
