@@ -32,7 +32,7 @@ def module_word(word: str) -> str:
 def add_arguments(parser: argparse.ArgumentParser) -> None:
     parser.epilog = "Status 0: it is written, or the module is right. 1: the module is wrong, or there is no controller. 2: it cannot be written so, and why."
     parser.add_argument("file", metavar="FILE")
-    parser.add_argument("--to", choices=FORMATS, required=True, help=" | ".join(FORMATS))
+    parser.add_argument("--to", metavar="FORMAT", choices=FORMATS, required=True, help=" | ".join(FORMATS))
     parser.add_argument("--inputs", type=int, metavar="N", help="with verilog: the controller of the variables after the first N, not a monitor")
     parser.add_argument("--module", metavar="NAME", type=module_word, help="with verilog: the module's name (else that of the file and _monitor or _controller)")
     parser.add_argument("--form", choices=verilog.FORMS, help=f"with verilog: else cases up to {verilog.MOST_CASES} states, and tables above")
