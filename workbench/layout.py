@@ -22,31 +22,21 @@ def operators(tokens: Sequence[Token]) -> Set[int]:
 
 def relation_after(tokens: Sequence[Token], at: int) -> int:
     """The number of the relation of a measure: after slen at once, and else after its operand, a name, a call or a parenthesis."""
-    place = at + 1
     if tokens[at].text == "slen":
-        return place
-    while place < len(tokens) and tokens[place].text in PREFIX:
-        place += 1
-    place += place < len(tokens) and tokens[place].text != "("
+        return at + 1
+    first = next((place for place in range(at + 1, len(tokens)) if tokens[place].text not in PREFIX), len(tokens))
     depth = 0
-    while place < len(tokens):
+    for place in range(first, len(tokens)):
         depth += (tokens[place].text == "(") - (tokens[place].text == ")")
-        if depth <= 0 and tokens[place].text != ")":
-            break
-        place += 1
-    return place
+        if depth <= 0 and tokens[place].text != ")" and place > first:
+            return place
+    return len(tokens)
 
 
 def formatted(text: str) -> Optional[str]:
     """The text with the blanks of each line put right; None where that would change a token."""
     tokens = Tokens("", "", text).tokens
-    between = operators(tokens)
-    rows: Dict[int, List[int]] = {}
-    line, seen = 0, 0
-    for number, token in enumerate(tokens):
-        line += text.count("\n", seen, token.start)
-        seen = token.start
-        rows.setdefault(line, []).append(number)
+    between, rows = operators(tokens), rows_of(text, tokens)
     lines, is_open = [], False
     for number, old in enumerate(text.split("\n")):
         row = rows.get(number, [])
@@ -54,6 +44,17 @@ def formatted(text: str) -> Optional[str]:
         is_open = tokens[row[-1]].text != ";" if row else is_open
     made = re.sub(r"\n{3,}", "\n\n", "\n".join(lines)).strip("\n") + "\n"
     return made if [token.text for token in Tokens("", "", made).tokens] == [token.text for token in tokens] else None
+
+
+def rows_of(text: str, tokens: Sequence[Token]) -> Dict[int, List[int]]:
+    """For each line the numbers of its tokens."""
+    found: Dict[int, List[int]] = {}
+    line, seen = 0, 0
+    for number, token in enumerate(tokens):
+        line += text.count("\n", seen, token.start)
+        seen = token.start
+        found.setdefault(line, []).append(number)
+    return found
 
 
 def written(old: str, row: Sequence[Token], glued: Sequence[bool], is_open: bool) -> str:

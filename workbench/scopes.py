@@ -97,9 +97,8 @@ class Names:
         depth, stack, before = 0, [], ""  # type: int, List[Tuple[int, Symbol]], str
         for token in words:
             depth += {"(": 1, ")": -1}.get(token.text, 0)
-            while stack and stack[-1][0] > depth:
-                symbol = stack.pop()[1]
-                symbol.scope = symbol.scope[0], token.start
+            if token.text == ")":
+                stack = ended(stack, depth, token.start)
             if before in ("ex", "all") and is_name(token.text):
                 stack.append((depth, self.declare("quantified", token, whole, (token.start, whole[1]))))
             elif is_name(token.text):
@@ -126,6 +125,14 @@ class Names:
         """Which declaration each name stands for, by their order: the same before and after a renaming that changes no meaning."""
         order = {id(symbol): number for number, symbol in enumerate(self.symbols)}
         return [order[id(self.bound[token.start])] if token.start in self.bound else token.text for token in self.tokens]
+
+
+def ended(stack: List[Tuple[int, Symbol]], depth: int, place: int) -> List[Tuple[int, Symbol]]:
+    """The quantifiers that are in force after a closing parenthesis; the others reach to its place."""
+    for inner, symbol in stack:
+        if inner > depth:
+            symbol.scope = symbol.scope[0], place
+    return [it for it in stack if it[0] <= depth]
 
 
 # ---- comments

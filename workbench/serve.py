@@ -59,9 +59,7 @@ class Server:
             return 1
         finally:
             self.connection.close()
-            for uri in list(self.analyses):
-                self.stop(uri)
-            for program in list(self.requests.values()):
+            for program in [*self.requests.values(), *(analysis.program for analysis in self.analyses.values())]:
                 program.stop()
 
     def take(self, message: Message) -> None:

@@ -118,12 +118,11 @@ def drawn(simulation: Simulation, words: Sequence[Sequence[str]], wanted: Sequen
     """Compares the answer at each instant of behaviours; how many instants these have."""
     states = simulation.machine.states
     lines = [line_of(None, letter, at + 1 == len(word), states) for word in words for at, letter in enumerate(word)]
-    found = iter(simulation.answers(lines))
-    for word, answers in zip(words, wanted):
-        for at, answer in enumerate(answers):
-            said = next(found).split()[1]
-            if said != str(answer):
-                raise Wrong(f"instant {at} of {in_line(word[:at + 1])}: the module answers {said}, the program {answer}")
+    found = simulation.answers(lines)
+    instants = [(word, at, answer) for word, answers in zip(words, wanted) for at, answer in enumerate(answers)]
+    for (word, at, answer), said in zip(instants, found):
+        if said.split()[1] != str(answer):
+            raise Wrong(f"instant {at} of {in_line(word[:at + 1])}: the module answers {said.split()[1]}, the program {answer}")
     return len(lines)
 
 

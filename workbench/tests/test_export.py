@@ -177,16 +177,16 @@ class Verilog(WithFolder):
     @needs_tool("yosys", "yosys")
     @needs_tool("berkeley-abc", "berkeley-abc")
     def test_model_checker(self):
-        """By AIGER, bounded model checking breaks the requirement at the length of the shortest counterexample, by hand 4; frames count from 0."""
-        bad = self.file("bad.v", "module bad(input clk, input v_request, input v_grant, output broken); wire ok;\n"
-                        "response_monitor it(.clk(clk), .rst(1'b0), .v_request(v_request), .v_grant(v_grant), .ok(ok));\nassign broken = !ok; endmodule\n")
-        aiger = os.path.join(self.folder, "bad.aig")
-        for form in ("cases", "tables"):
-            script = f"read_verilog {self.write(RESPONSE, '--form', form)} {bad}; synth -flatten -top bad; dffunmap; aigmap; write_aiger -zinit {aiger}"
+        """By AIGER: a grant that is free breaks the requirement at the length of the shortest counterexample, by hand 4 (frames count from 0), and one
+        that comes at once never does."""
+        module, aiger = self.write(RESPONSE), os.path.join(self.folder, "bad.aig")
+        for grant, found in (("grant", b"was asserted in frame 3"), ("request", b"Property proved")):
+            bad = self.file("bad.v", "module bad(input clk, input request, input grant, output broken); wire ok;\n"
+                            f"response_monitor it(.clk(clk), .rst(1'b0), .v_request(request), .v_grant({grant}), .ok(ok));\nassign broken = !ok; endmodule\n")
+            script = f"read_verilog {module} {bad}; synth -flatten -top bad; dffunmap; aigmap; write_aiger -zinit {aiger}"
             subprocess.run(["yosys", "-q", "-p", script], check=True)
-            for engine in ("bmc3", "pdr"):
-                said = subprocess.run(["berkeley-abc", "-c", f"read {aiger}; {engine}; write_cex -n {aiger}.cex"], stdout=subprocess.PIPE, check=True)
-                self.assertIn(b"was asserted in frame 3", said.stdout)
+            said = subprocess.run(["berkeley-abc", "-c", f"read {aiger}; pdr"], stdout=subprocess.PIPE, check=True)
+            self.assertIn(found, said.stdout)
 
 
 if __name__ == "__main__":
