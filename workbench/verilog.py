@@ -73,7 +73,7 @@ def module(machine: Machine, name: str, title: str, form: str) -> str:
 
 def module_name(path: str, ending: str) -> str:
     """A module's name from that of a file."""
-    stem = re.sub(r"\W", "_", re.sub(r".*/|\.dc$", "", path), flags=re.A)
+    stem = re.sub(r"\W", "_", re.sub(r".*/|\.dc$", "", path), flags=re.A).strip("_") or "dcvalid"
     return f"{stem if re.match('[A-Za-z]', stem) else 'dc_' + stem}_{ending}"
 
 

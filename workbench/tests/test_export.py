@@ -3,12 +3,14 @@ import json
 import os
 import re
 import subprocess
+import sys
 import unittest
 
 import exports
 import graphviz
 import interchange
 import omega
+import verilog
 from automaton import read_automaton
 from language import read_text
 from program import Program
@@ -118,6 +120,17 @@ class Verilog(WithFolder):
 
     def verified(self, path, module, *words):
         return run("ask", "export", path, "--to", "verilog", "--verify", module, *words)
+
+    def test_names(self):
+        self.assertEqual([verilog.module_name(path, "monitor") for path in ("a/door-2.dc", "x.y.dc", "/tmp/1.dc", "-")],
+                         ["door_2_monitor", "x_y_monitor", "dc_1_monitor", "dcvalid_monitor"])
+
+    def test_where_there_is_no_simulator(self):
+        path = self.write(RESPONSE)
+        done = subprocess.run([sys.executable, os.path.join(ROOT, "ask"), "export", RESPONSE, "--to", "verilog", "--verify", path],
+                              env={**os.environ, "PATH": self.folder}, stdout=subprocess.PIPE, stderr=subprocess.PIPE)
+        self.assertEqual((done.returncode, done.stdout), (125, b""))
+        self.assertIn(b"package iverilog", done.stderr)
 
     @needs_tool("iverilog", "iverilog")
     def test_monitors(self):

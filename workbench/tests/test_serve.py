@@ -125,9 +125,9 @@ class Answers(Session):
 
 
 class Slow(Session):
-    """A program that takes 20 s for each answer, but for the first: whether a text has a fault."""
+    """A program that never ends, but where it is asked whether a text has a fault: what waits for it has no answer."""
 
-    SCRIPT = "#!/bin/sh\ncase \"$*\" in *'--states 1 --nodes 1'*) echo 'budget states 1 at 0 step 0' >&2; exit 4;; esac\ncat >>'{log}' <<END\nbegun\nEND\nexec sleep 20\n"
+    SCRIPT = "#!/bin/sh\ncase \"$*\" in *'--states 1 --nodes 1'*) echo 'budget states 1 at 0 step 0' >&2; exit 4;; esac\ncat >>'{log}' <<END\nbegun\nEND\nexec tail -f /dev/null\n"
 
     def setUp(self):
         super().setUp()
@@ -141,7 +141,7 @@ class Slow(Session):
 
     def test_typing(self):
         """While the program runs, requests are answered, and a change stops it; of the old version nothing is shown after that of the new one."""
-        client, uri, end = self.client(self.program), self.uri(), time.monotonic() + 20
+        client, uri = self.client(self.program), self.uri()
         client.open(uri, GOOD)
         client.until(lambda: client.shown(uri, 1))
         while not self.begun():
@@ -151,7 +151,6 @@ class Slow(Session):
             self.assertEqual(client.at("documentSymbol", uri)[0]["name"], "a")
             client.until(lambda: client.shown(uri, version))
         self.assertEqual(client.at("hover", uri, 2, 1)["contents"]["value"], "Being decided ..")
-        self.assertLess(time.monotonic(), end, "an answer waited for the program")
         versions = [it["params"]["version"] for it in client.notes if it["method"] == "textDocument/publishDiagnostics"]
         self.assertEqual(versions, sorted(versions))
         self.ended(client)
