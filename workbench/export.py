@@ -63,6 +63,8 @@ def written(automaton: Automaton, to: str, title: str) -> str:
     if to == "dot" and automaton.states > graphviz.MOST_STATES:
         raise NotExported(f"this automaton has {automaton.states} states, and Graphviz lays out no graph of more than {graphviz.MOST_STATES} in good time; "
                           "--to json has all of it")
+    if to == "hoa" and omega.count(automaton) > omega.MOST_EDGES:
+        raise NotExported(f"HOA would have {omega.count(automaton)} edges, and {omega.MOST_EDGES} are the most; --to json has all of it")
     writers: Dict[str, Callable[[Automaton, str], str]] = {"dot": graphviz.dot, "hoa": omega.hoa, "json": interchange.as_json}
     return writers[to](automaton, title)
 

@@ -1,12 +1,14 @@
 """The minimal automaton in HOA, as one of infinite words: a behaviour is the letters while the proposition `alive` is true."""
-from typing import Iterator, List, Tuple
+from typing import Dict, Iterator, List, Tuple
 
 from automaton import Automaton, Choice, Diagram
 from graphviz import quoted
+from tables import nodes_of
 
 Cube = Tuple[Tuple[int, bool], ...]  # the values of the variables on a path
 
 ALIVE = "alive"
+MOST_EDGES = 1_000_000
 
 
 def hoa(automaton: Automaton, title: str) -> str:
@@ -21,6 +23,14 @@ def hoa(automaton: Automaton, title: str) -> str:
         lines += [f"State: {state}", *edges(automaton, state)] + [f"[!{own}] {end}"] * automaton.accept[state]
     lines += [f"State: {end} {{0}}", f"[!{own}] {end}", f"State: {first}", *edges(automaton, 0)]
     return "\n".join(lines + ["--END--", ""])
+
+
+def count(automaton: Automaton) -> int:
+    """The number of edges: HOA has no diagrams, so each path of a state's diagram is one."""
+    below: Dict[int, int] = {}
+    for node in nodes_of(automaton):
+        below[id(node)] = sum(below[id(end)] if isinstance(end, Choice) else 1 for end in (node.high, node.low))
+    return sum(below[id(row)] if isinstance(row, Choice) else 1 for row in automaton.rows)
 
 
 def alive(automaton: Automaton) -> str:

@@ -32,7 +32,7 @@ SLOW = ("hover", "codeAction", "codeLens", "completion")
 
 class Server:
     def __init__(self, connection: Connection, path: Optional[str]) -> None:
-        self.connection, self.path, self.delay, self.limit = connection, path, DELAY, LIMIT
+        self.connection, self.path, self.delay, self.limit, self.patience = connection, path, DELAY, LIMIT, PATIENCE
         self.documents: Dict[str, Document] = {}
         self.analyses: Dict[str, Analysis] = {}
         self.requests: Dict[Any, Program] = {}  # by the number of each that is not answered, what it asks
@@ -154,7 +154,7 @@ class Server:
     def initialise(self, params: Message) -> Message:
         self.client, options = params.get("capabilities") or {}, params.get("initializationOptions") or {}
         self.path = options.get("program") or self.path
-        self.delay, self.limit = float(options.get("delay", self.delay)), float(options.get("limit", self.limit))
+        self.delay, self.limit, self.patience = (float(options.get(name, getattr(self, name))) for name in ("delay", "limit", "patience"))
         self.completion = Completion(bool(self.can("textDocument", "completion", "completionItem", "snippetSupport")))
         return {"serverInfo": {"name": "dcvalid"}, "capabilities": CAPABILITIES}
 
@@ -206,7 +206,7 @@ class Server:
 
     def waited(self, uri: str, program: Program) -> Optional[Analysis]:
         """The analysis of a text, which is waited for as long as a person waits."""
-        end = time.monotonic() + PATIENCE
+        end = time.monotonic() + self.patience
         while time.monotonic() < end:
             analysis = self.analyses.get(uri)
             if analysis is None or program.stopped or analysis.done.wait(0.05):
@@ -228,8 +228,8 @@ class Server:
 
 
 def add_arguments(parser: argparse.ArgumentParser) -> None:
-    parser.epilog = ("An editor starts it, see docs/EDITORS.md. Options of the request initialize: program (a path), delay (seconds after a change, "
-                     f"{DELAY}) and limit (seconds for a decision, {LIMIT:g}).")
+    parser.epilog = ("An editor starts it, see docs/EDITORS.md. Options of the request initialize: program (a path), and in seconds "
+                     f"delay (after a change, {DELAY}), limit (for a decision, {LIMIT:g}) and patience (that a request waits for it, {PATIENCE:g}).")
 
 
 def run(_: argparse.Namespace, program: Program) -> int:

@@ -8,7 +8,7 @@ from layout import formatted
 from navigation import folding, rename
 from protocol import Failed
 from scopes import Names
-from support import ROOT, examples
+from support import examples
 
 PIECES = ("a", "é", "\U0001F600", "\n", "\r\n", "\r", " ", "infer", "//")
 

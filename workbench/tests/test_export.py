@@ -56,6 +56,10 @@ class ByHand(unittest.TestCase):
         text = SMALL.replace("variables p q", "variables alive q").replace("n1 p ?", "n1 alive ?")
         self.assertIn('AP: 3 "alive" "q" "alive_"', omega.hoa(read_automaton(text), "a.dc"))
 
+    def test_edges(self):
+        """From the start the paths p, !p q and !p !q, and one from each state that stays."""
+        self.assertEqual(omega.count(read_automaton(SMALL)), 3 + 1 + 1 + 1)
+
     def test_names_of_files(self):
         self.assertIn('label="a\\\\\\"b"', graphviz.dot(read_automaton(SMALL), 'a\\"b'))
 
@@ -68,6 +72,7 @@ class Formats(WithFolder):
         for path in small_examples():
             automaton = program.automaton(read_text(path))
             texts = interchange.as_json(automaton, "a.dc"), omega.hoa(automaton, "a.dc")
+            self.assertEqual(texts[1].split("State: ", 1)[1].split(f"State: {automaton.states} ")[0].count("\n[") - sum(automaton.accept), omega.count(automaton))
             for word in drawn_behaviours(automaton, 30):
                 found = exports.json_accepts(texts[0], word), exports.hoa_accepts(texts[1], word)
                 self.assertEqual(found, (automaton.accepts(word),) * 2, (path, word))

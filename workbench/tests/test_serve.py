@@ -5,7 +5,7 @@ import time
 import unittest
 
 from client import Client
-from support import PROGRAM, ROOT, WithFolder, needs_program, run
+from support import ROOT, WithFolder, needs_program, run
 
 FAULT = "// \U0001F600 é\nvar a, b; // ü\ninfer [[a]] and [[b]];\n"
 GOOD = FAULT.replace("and", "&&")
@@ -156,7 +156,7 @@ class Slow(Session):
         self.ended(client)
 
     def test_cancelling(self):
-        client, uri = self.client(self.program), self.uri()
+        client, uri = self.client(self.program, patience=3600), self.uri()
         client.open(uri, GOOD)
         number = client.start("textDocument/hover", {"textDocument": {"uri": uri}, "position": {"line": 2, "character": 1}})
         client.note("$/cancelRequest", {"id": number})
