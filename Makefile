@@ -28,6 +28,7 @@ install:
 	install -m 644 workbench/*.py '$(TOP)/$(SHARE)/workbench'
 	install -m 644 workbench/c/* '$(TOP)/$(SHARE)/workbench/c'
 	install -m 644 patterns/*.dc '$(TOP)/$(SHARE)/patterns'
+	cp -R editors '$(TOP)/$(SHARE)'
 	$(PYTHON) workbench/pages.py man >'$(TOP)/$(MAN)/dcvalid.1'
 	ln -sf dcvalid.1 '$(TOP)/$(MAN)/ask.1'
 	$(PYTHON) workbench/pages.py bash >'$(TOP)/$(COMPLETIONS)/dcvalid'

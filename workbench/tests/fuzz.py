@@ -15,12 +15,19 @@ from typing import Callable, Dict, List, Sequence, Tuple
 
 HERE = os.path.dirname(os.path.abspath(__file__))
 sys.path[:0] = [HERE, os.path.dirname(HERE)]
+import exports  # noqa: E402
+import interchange  # noqa: E402
+import navigation  # noqa: E402
+import omega  # noqa: E402
 import suite  # noqa: E402
+from analysis import Analysis  # noqa: E402
 from asked import Questions  # noqa: E402
+from documents import Document  # noqa: E402
 from expand import Text  # noqa: E402
 from expansion import Expansion  # noqa: E402
 from joined import read_requirement  # noqa: E402
 from language import Tree, parse, to_text  # noqa: E402
+from layout import formatted  # noqa: E402
 from logs import rows_of  # noqa: E402
 from operands import Question  # noqa: E402
 from explain import Explainer  # noqa: E402
@@ -111,6 +118,28 @@ def judge_automaton(case: Case) -> None:
         for letter in word:
             state = tables.step(state, letter)
         assert tables.accept(state) == automaton.accepts(word) == satisfies(case.goals[0], word)
+
+
+def judge_export(case: Case) -> None:
+    """What JSON and HOA say of short behaviours, and of a longer one."""
+    automaton = case.program.automaton(case.texts[0])
+    texts = interchange.as_json(automaton, "a"), omega.hoa(automaton, "a")
+    for word in [*SHORT, case.word]:
+        assert exports.json_accepts(texts[0], word) == exports.hoa_accepts(texts[1], word) == satisfies(case.goals[0], word)
+
+
+def judge_serve(case: Case) -> None:
+    """The verdict of a language server; and the text is the same requirement when it was formatted and a name was changed."""
+    document = Document("file:///drawn.dc", case.texts[0].replace(" && ", "&&"), 1)
+    analysis = Analysis(document, case.program, lambda _: None, 3600)
+    analysis.run()
+    verdict, summary = case.program.check(case.texts[0]), analysis.summary() or ""
+    assert summary.startswith("valid:" if verdict.valid else "not valid:" if verdict.satisfiable else "no behaviour"), summary
+    assert f"; {case.program.automaton(case.texts[0]).states} state" in summary and not analysis.fixes
+    text = formatted(document.raw) or ""
+    for edit in navigation.rename(Document("", text, 1), {"position": {"line": 0, "character": 4}, "newName": "other_p"})["documentChanges"][0]["edits"][::-1]:
+        text = Document("", text, 1).changed({"range": edit["range"], "text": edit["newText"]}, 1).raw
+    assert case.program.check(text) == verdict, text
 
 
 def judge_tests(case: Case) -> None:

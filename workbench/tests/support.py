@@ -2,6 +2,7 @@
 import contextlib
 import io
 import os
+import shutil
 import subprocess
 import tempfile
 import unittest
@@ -15,6 +16,11 @@ BUILT = os.path.join(ROOT, "crates", "dcvalid", "out", "dcvalid")
 PROGRAM = os.environ.get("DCVALID") or (BUILT if os.access(BUILT, os.X_OK) else None)
 
 needs_program = unittest.skipUnless(PROGRAM, "there is no program: DCVALID names none, and ./dcvalid is not built")
+
+
+def needs_tool(tool, package):
+    """Skips a test, or the tests of a class, where a tool is missing; the reason names Debian's package that has it."""
+    return unittest.skipUnless(shutil.which(tool), f"there is no {tool}: Debian has it in the package {package}")
 
 
 def examples():

@@ -26,6 +26,8 @@ PLANTED = (
     ("explain", "explain.words_of", lambda report: {}),
     ("set", "asked.Questions.refuted", lambda questions, left, right: True),
     ("automaton", "tables.Tables.leaf", lambda tables, place, letter: 0),
+    ("serve", "analysis.Analysis.decide", lambda analysis: None),
+    ("export", "omega.paths", lambda row: [(0, ())]),
     ("review", "questions.Requirement.put", lambda requirement, start, end, new: requirement.text),
     ("check", "program.words_of", lambda report: {"counterexample": ["00"], "example": ["00"]}),
     ("stuck", "program.words_of", lambda report: {"stuck": ["00"]}),
