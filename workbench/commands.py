@@ -34,10 +34,13 @@ ASK = (
     Command("tests", "FILE", "a test suite that tells the requirement from every other of as many states"),
     Command("watch", "FILE LOG", "a log, recorded or live, against one requirement or many, by the names of their variables"),
     Command("tables", "FILE", "an observer as C tables for several instances, or several requirements that share the code"),
+    Command("export", "FILE", "the automaton as DOT, HOA, JSON or a monitor in Verilog; or a controller in Verilog"),
     Command("patterns", "[NAME]", "the patterns of requirements with their sentences, or one of them in full"),
     Command("pattern", "NAME ..", "a requirement made from a pattern, its propositions and its numbers"),
     Command("expand", "FILE", "a file with constants, sums, numbers as arguments and use, as a file of the language"),
+    Command("serve", "", "a language server over standard input and output, for an editor"),
     Command("set", "FILE ..", "several requirements together: contradictions, where they get stuck, what follows from the others"),
+    Command("report", "FILE ..", "one page in HTML about requirements, for a review meeting: text, verdict, waves, signals, automaton, tests"),
     Command("register", "TABLE", "a table of requirements (id;sentence;pattern;arguments) as a folder of files, and a folder as a table"),
     Command("verify", "FILE", "the program's answers checked step by step, by a script that trusts neither its proofs nor its compiler"),
 )

@@ -69,7 +69,7 @@ def repaired(program: Program, text: str, fault: Fault) -> List[str]:
         tokens = repairs.may_stand(program, text, fault.place)
         lines.append(f"  May stand here: {repairs.spoken(text, fault.place, tokens)}")
     if fault.kind in ("syntax", "byte", "unknown", "kind"):
-        told = repairs.changes(program, text, fault, tokens)
+        told = repairs.phrases(repairs.repairs(program, text, fault, tokens))
         if told:
             lines.append(f"  No fault is left if you {', or '.join(told)}.")
     return lines

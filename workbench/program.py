@@ -74,7 +74,7 @@ def fault_of(message: str) -> Optional[Fault]:
 
 
 class Program:
-    """`path` names another program; else DCVALID does, else it is the repository's, which is proved and built first where it is not."""
+    """`path` or DCVALID names another program than the repository's, which is built without its proofs where it is not there."""
 
     def __init__(self, path: Optional[str] = None, show: bool = False) -> None:
         self.path = path or os.environ.get("DCVALID") or None

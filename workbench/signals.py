@@ -30,6 +30,10 @@ class Signal(NamedTuple):
     def spoken(self) -> str:
         return " ".join([self.name] + ["= " + self.expression] * bool(self.expression) + ["// " + self.meaning] * bool(self.meaning))
 
+    def has(self, column: str) -> bool:
+        """Whether the expression names this column."""
+        return any(column in match.group("name", "quoted") for match in TOKEN.finditer(self.expression))
+
 
 class Part(NamedTuple):
     """A part of an expression: whether it is a number, a truth, a text, or a column, which is what it is used as, and its value in a row."""

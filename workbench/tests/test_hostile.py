@@ -266,9 +266,11 @@ class Streams(WithFolder):
     def test_what_is_stopped_leaves_nothing(self):
         room = os.path.join(self.folder, "tmp")
         os.mkdir(room)
-        for number, wait in ((signal.SIGTERM, 0.3), (signal.SIGINT, 0.3), (signal.SIGTERM, 0.6)):
+        for number, wait in ((signal.SIGTERM, 0), (signal.SIGINT, 0), (signal.SIGTERM, 0.3)):
             process = subprocess.Popen([os.path.join(ROOT, "ask"), "review", os.path.join(ROOT, "examples", "gas_burner.dc")], stdout=subprocess.PIPE,
                                        stderr=subprocess.PIPE, env={**os.environ, "DCVALID": PROGRAM, "TMPDIR": room})
+            while process.poll() is None and not any(name.startswith("ask-") for name in os.listdir(room)):
+                time.sleep(0.01)  # until its folder is there, so that it knows of signals
             time.sleep(wait)
             process.send_signal(number)
             _, err = process.communicate()
