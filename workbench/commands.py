@@ -24,6 +24,7 @@ class Command(NamedTuple):
 STATES = Option("--states", "N", f"the most states of a step, 1 to {limits.STATES} ({limits.DEFAULT_STATES} where it is not given)")
 NODES = Option("--nodes", "N", f"the most diagram nodes of a step, 1 to {limits.NODES} ({limits.NODES} where it is not given)")
 LIMITS = (STATES, NODES)
+TUPLES = Option("--tuples", "N", f"the most tuples of states before an answer, 1 to {limits.TUPLES} ({limits.DEFAULT_TUPLES} where it is not given)")
 SHOW = Option("--show", "", "writes each file that the program is asked about on standard error")
 
 ASK = (
@@ -61,6 +62,8 @@ PROGRAM = (
     Command("replay-lustre", "OBSERVER TRACE", "what an observer in Lustre answers at each instant of a trace"),
     Command("replay-c", "OBSERVER TRACE", "what an observer in C answers at each instant of a trace"),
     Command("sweep", "SEED COUNT", "counts over 1 to 1000 formulas that are drawn from a seed"),
+    Command("together", "FILE ..", "whether requirements can be satisfied together, and whether what has kept to all so far can always go on", LIMITS + (TUPLES,)),
+    Command("follows", "FILE ..", "whether the first requirement follows from the others, or a shortest behaviour that shows that it does not", LIMITS + (TUPLES,)),
 )
 
 # Commands whose module has another name.
