@@ -7,7 +7,7 @@ import expand
 import hints
 import repairs
 from language import MOST_BYTES
-from program import NO_PROGRAM, Fault, Program, Refusal, fault_of
+from program import NO_PROGRAM, Fault, Program, Refusal, fault_of, place_of_file
 from shapes import SourceFault
 from spots import Spot
 
@@ -81,7 +81,7 @@ def explained(refusal: Refusal, path: Optional[str], name: str, program: Program
     said = [line for line in (refusal.message, *hints.of_message(refusal.message)) if line]
     if refusal.status not in (3, 4) or not path or not refusal.texts:
         return said, refusal.status
-    text = refusal.texts[-1 if refusal.message.endswith(" in second") else 0]
+    text = refusal.texts[place_of_file(refusal.message)]
     try:
         whole = expand.Text(path, name)
     except (OSError, SourceFault):

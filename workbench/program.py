@@ -21,7 +21,7 @@ ROOT = os.path.dirname(os.path.dirname(os.path.abspath(__file__)))
 SCRIPT = os.path.join(ROOT, "dcvalid")
 BUILT = os.path.join(ROOT, "crates", "dcvalid", "out", "dcvalid")
 NO_PROGRAM = 125  # the status where there is no program, or what it did is no answer
-LIMITS = ("size", "depth", "slots", "many", "length", "nest", "outputs", "declarations")  # faults that a larger text has, and no other spelling
+LIMITS = ("size", "depth", "slots", "many", "length", "nest", "outputs", "declarations", "names")  # faults that a larger text has, and no other spelling
 
 
 class Refusal(Exception):
@@ -46,7 +46,7 @@ class Refusal(Exception):
 
 
 class Fault(NamedTuple):
-    """A fault of a file: its kind, its place in bytes, and `first` or `second` where there were two files."""
+    """A fault of a file: its kind, its place in bytes, and `first`, `second` or `file N` where there were several files."""
 
     kind: str
     place: int
@@ -60,6 +60,12 @@ class Answer(NamedTuple):
 
 
 @dataclass(frozen=True)
+class Together:
+    example: Optional[Word]  # a shortest behaviour that satisfies all
+    stuck: Optional[Word]  # a shortest one that kept to all and cannot go on: an empty one where there is no first instant, None where all can
+
+
+@dataclass(frozen=True)
 class Verdict:
     valid: bool
     satisfiable: bool
@@ -69,8 +75,14 @@ class Verdict:
 
 def fault_of(message: str) -> Optional[Fault]:
     """The fault that a line of the program names, or None."""
-    match = re.match(r"fault (\w+) at (\d+)(?: in (first|second))?$", message.strip().split("\n")[0])
+    match = re.match(r"fault (\w+) at (\d+)(?: in (first|second|file \d+))?$", message.strip().split("\n")[0])
     return Fault(match.group(1), int(match.group(2)), match.group(3)) if match else None
+
+
+def place_of_file(message: str) -> int:
+    """Which of the files, counted from 0, a line of the program names; the first where it names none."""
+    match = re.search(r" in (?:second|file (\d+))$", message)
+    return int(match.group(1) or 2) - 1 if match else 0
 
 
 class Program:
@@ -218,6 +230,15 @@ class Program:
         """None where what has kept to the formula so far can always go on, else a shortest behaviour that cannot: an empty one where there is no first instant."""
         answer = self.ask("stuck", text, options=options)
         return None if answer.status == 0 else words_of(answer.output)["stuck"]
+
+    def together(self, texts: Sequence[str], options: Sequence[str] = ()) -> Together:
+        """Whether requirements, joined by the names of their variables, can be satisfied together and always go on."""
+        words = words_of(self.ask("together", *texts, options=options).output)
+        return Together(words.get("possible"), words.get("stuck"))
+
+    def follows(self, first: str, others: Sequence[str], options: Sequence[str] = ()) -> Optional[Word]:
+        """None where the first formula follows from the others, else a shortest behaviour that satisfies all of these and not the first."""
+        return words_of(self.ask("follows", first, *others, options=options).output).get("does not follow")
 
     def observer(self, text: str, language: str = "c", options: Sequence[str] = ()) -> str:
         return self.ask(language, text, options=options).output
