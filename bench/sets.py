@@ -12,6 +12,14 @@ PROGRAM names the program.
     three           the pair, and a lamp
     follows         openings 300 instants apart, from openings 900 instants apart and calls answered in 900
     over            all five files, more tuples than the default
+
+The last figures: 1 December 2026, an unproved build, an Intel Xeon at 2.5 GHz with a load of 5 on its four processors; `over` was run once.
+
+  pair                 270001   0.26 s   0.24 s    20.7 MB  never stuck
+  contradiction         45751   0.02 s   0.02 s     5.7 MB  stuck 301
+  three                807303   0.96 s   0.95 s    58.6 MB  never stuck
+  follows             1082104   1.65 s   1.30 s    74.2 MB  follows
+  over           over 5000000  17.20 s  13.18 s   516.9 MB  budget tuples 5000000
 """
 import os
 import sys
