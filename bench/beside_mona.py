@@ -121,6 +121,8 @@ def measure(case: str, ours: List[str], mona: List[str], output: str) -> Tuple[f
 
 
 def main(cases: List[str]) -> None:
+    if not {case.split(" ")[0] for case in cases} <= set(families.FAMILIES):
+        sys.exit(f"usage: bench/beside_mona.py [CASE ..], where each CASE is a family and its sizes; the families are: {', '.join(families.FAMILIES)}")
     ours, found = program(), []
     print(ROW.format("case", "ms", "MONA", "times", "wall ms", "MONA", "MB", "MONA", "times", "answer"))
     with tempfile.TemporaryDirectory() as folder:

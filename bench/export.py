@@ -8,27 +8,20 @@ matters less. It needs yosys and iverilog, which Debian has in packages of these
 """
 import os
 import re
-import resource
-import subprocess
 import sys
 import tempfile
 from typing import List, Sequence
+
+import measured
 
 ROOT = os.path.dirname(os.path.dirname(os.path.abspath(__file__)))
 NUMBERS = (3, 100, 1000, 8998)
 
 
 def timed(words: Sequence[str], out: str, seconds: float = 3600) -> str:
-    """Runs a command with its output in a file: the processor time, or a word where it did not end well."""
-    before = resource.getrusage(resource.RUSAGE_CHILDREN)
-    try:
-        with open(out, "w") as file:
-            status = subprocess.run(["timeout", str(seconds), *words], stdout=file, stderr=subprocess.DEVNULL, check=False).returncode
-    except OSError:
-        return "not there"
-    after = resource.getrusage(resource.RUSAGE_CHILDREN)
-    used = after.ru_utime + after.ru_stime - before.ru_utime - before.ru_stime
-    return f"{used:.1f} s" if status == 0 else f"over {seconds:.0f} s" if status == 124 else f"status {status}"
+    """Runs a command with its output in a file: the processor time, or a word where it did not end well. `timeout` ends its children too."""
+    run = measured.run(["timeout", str(seconds), *words], out)
+    return f"{run.cpu / 1e6:.1f} s" if run.status == 0 else {124: f"over {seconds:.0f} s", 127: "not there"}.get(run.status, f"status {run.status}")
 
 
 def row(room: str, number: int, seconds: float) -> List[str]:
@@ -53,6 +46,8 @@ def row(room: str, number: int, seconds: float) -> List[str]:
 
 
 def main(words: Sequence[str]) -> int:
+    if words and not re.fullmatch(r"[0-9]+(\.[0-9]+)?", words[0]):
+        sys.exit("usage: bench/export.py [SECONDS]")
     seconds = float(words[0]) if words else 600
     print("| States | HOA | JSON | Cases | Check of these | Yosys | Tables | Check of these | Yosys |\n" + "|---" * 9 + "|")
     with tempfile.TemporaryDirectory() as room:

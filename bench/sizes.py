@@ -59,6 +59,8 @@ TEXTS: Dict[str, str] = {
 
 
 def main(names: Sequence[str]) -> None:
+    if not set(names) <= set(TEXTS):
+        sys.exit(f"usage: bench/sizes.py [NAME ..], where each NAME is one of: {', '.join(TEXTS)}")
     words = [program(), "check"]
     for limit, most in ((resource.RLIMIT_CPU, SECONDS), (resource.RLIMIT_AS, BYTES)):
         resource.setrlimit(limit, (most, resource.getrlimit(limit)[1]))

@@ -21,7 +21,7 @@ ELSEWHERE = set("""
     my_grammar my_rule dcv_x make_requirement supplied assumed logger trip retry test_01 pump_minimum door_reset door_step
     items_hidden-the_row-T-k x-items x-index in_err-x in_ok-x in-Variant in-Some-CALL Joined-x f-requires size-T returns-then- returns-then-some-clause
     CALL GOAL MODULE FUNCTION WRONG Variant always_ _for_a_request
-    stamp_ms dcvalid_VERSION_ARCHITECTURE vVERSION LICENSE mypy pyflakes3
+    dcvalid_VERSION_ARCHITECTURE vVERSION LICENSE mypy pyflakes3
 """.split())
 
 # Calls that are the face of a crate as a library, which tests make alone, and what a trait asks for. Laws are called by whoever needs them.

@@ -7,7 +7,7 @@ from typing import Callable, List, Optional, Sequence, Tuple
 import hints
 import repairs
 from answers import Word
-from documents import Document, path_of, utf8
+from documents import Document, path_of
 from expand import is_source
 from expansion import Expansion
 from language import MOST_BYTES, Fault as Unread, parse
@@ -15,7 +15,7 @@ from program import NO_PROGRAM, Fault, Program, Refusal, Verdict
 from protocol import Message
 from shapes import SourceFault, Tokens
 from sources import Source
-from spots import Spot
+from spots import Spot, utf8
 from waves import instants
 
 ERROR, WARNING, INFORMATION = 1, 2, 3

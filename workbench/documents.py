@@ -6,6 +6,7 @@ import urllib.parse
 from typing import Tuple
 
 from protocol import Message
+from spots import utf8
 
 Span = Tuple[int, int]
 
@@ -81,11 +82,6 @@ def is_inside(old: str, changed: str, place: int, backwards: bool = False) -> bo
 
 def raw_of(text: str) -> str:
     return text.encode("utf-8", "surrogatepass").decode("latin-1")
-
-
-def utf8(raw: str) -> str:
-    """A text of bytes as the editor has it."""
-    return raw.encode("latin-1").decode("utf-8", "replace")
 
 
 def path_of(uri: str) -> str:

@@ -4,10 +4,9 @@ from itertools import takewhile
 from os import PathLike
 from typing import Dict, Iterator, List, Optional, Tuple, Union
 
-from language import MOST_TEXT, read_text
 from shapes import TOKEN, is_name
-from signals import read_signals
-from spots import shown
+from signals import listed
+from spots import printable, shown
 
 ENTRY = re.compile(r"//\s*([A-Za-z]\w*)\s*:\s*(\S.*)", re.A)
 
@@ -18,11 +17,10 @@ def glossary(text: str, signals: Optional[Union[str, "PathLike[str]"]] = None) -
     The text has a character for each byte, as `read_text` returns it, and may have faults.
     """
     names = {name for name, _ in declared(text)}
-    listed = read_signals(read_text(str(signals), MOST_TEXT), str(signals)) if signals else []
-    found = {it.name: it.meaning for it in listed if it.meaning}
-    found.update(beside(text))
-    found.update(entry for line in head(text) for entry in entries(line))
-    return {name: shown(meaning) for name, meaning in found.items() if name in names}
+    found = {it.name: printable(it.meaning) for it in listed(str(signals) if signals else None) if it.meaning}
+    own = [*beside(text), *(entry for line in head(text) for entry in entries(line))]
+    found.update((name, shown(meaning)) for name, meaning in own)
+    return {name: meaning for name, meaning in found.items() if name in names}
 
 
 def head(text: str) -> List[str]:

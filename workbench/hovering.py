@@ -4,12 +4,13 @@ from typing import List, Optional, Tuple
 
 import library
 from analysis import Analysis, goal
-from documents import Document, utf8
+from documents import Document
 from glossary import glossary
 from language import parse
 from navigation import edit_of
 from protocol import Message
 from scopes import Names, Symbol, block_above
+from spots import utf8
 from waves import heading, waves
 
 WIDTH, MOST_LINES = 78, 40  # of a picture

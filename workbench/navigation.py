@@ -3,13 +3,14 @@ import os
 import re
 from typing import Any, List, Optional
 
-from documents import Document, path_of, uri_of, utf8
+from documents import Document, path_of, uri_of
 from glossary import glossary
 from language import read_text
 from layout import formatted
 from protocol import Failed, Message
 from scopes import Names, comments
 from shapes import is_name
+from spots import utf8
 from sources import ROOT
 
 # The kinds of LSP: of an item of completion, and of a symbol.

@@ -1,11 +1,10 @@
 """The minimal automaton in HOA, as one of infinite words: a behaviour is the letters while the proposition `alive` is true."""
-from typing import Dict, Iterator, List, Tuple
+from typing import Dict, List
 
-from automaton import Automaton, Choice, Diagram
+from automaton import Automaton, Choice
+from conditions import paths
 from graphviz import quoted
 from tables import nodes_of
-
-Cube = Tuple[Tuple[int, bool], ...]  # the values of the variables on a path
 
 ALIVE = "alive"
 MOST_EDGES = 1_000_000
@@ -45,14 +44,3 @@ def edges(automaton: Automaton, state: int) -> List[str]:
     """The lines for the letters from a state, while the behaviour lasts."""
     own = len(automaton.variables)
     return [f"[{'&'.join([*(('' if value else '!') + str(place) for place, value in cube), str(own)])}] {target}" for target, cube in paths(automaton.rows[state])]
-
-
-def paths(row: Diagram) -> Iterator[Tuple[int, Cube]]:
-    """The paths of a state's diagram, each with the state that it leads to."""
-    todo: List[Tuple[Diagram, Cube]] = [(row, ())]
-    while todo:
-        diagram, cube = todo.pop()
-        if isinstance(diagram, Choice):
-            todo += [(diagram.low, cube + ((diagram.variable, False),)), (diagram.high, cube + ((diagram.variable, True),))]
-        else:
-            yield diagram, cube

@@ -1,6 +1,7 @@
 """The program, asked questions: it is run on files or on texts, its answers are typed, and what it refuses is an exception."""
 import os
 import re
+import shutil
 import signal
 import subprocess
 import sys
@@ -89,7 +90,8 @@ class Program:
     """`path` or DCVALID names another program than the repository's, which is built without its proofs where it is not there."""
 
     def __init__(self, path: Optional[str] = None, show: bool = False) -> None:
-        self.path = path or os.environ.get("DCVALID") or None
+        named = path or os.environ.get("DCVALID")
+        self.path = shutil.which(named) or named if named else None
         self.show = show
         self.runs = 0
         self.stopped = False

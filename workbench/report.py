@@ -10,7 +10,7 @@ import faults
 from asked import Finding, Questions, Unanswered
 from glossary import glossary
 from joined import Requirement, joined, named, read_requirement
-from language import MOST_TEXT, read_text
+from language import read_text
 from nearby import near_names, strange_names
 from printer import print_pdf
 from program import Program, Refusal
@@ -22,7 +22,7 @@ from review import Review, reviewed, telling
 from revision import revision
 from sets import Answers, Survey, unknown_inputs
 from shapes import SourceFault
-from signals import read_signals
+from signals import listed
 from sources import load
 from streams import is_stream, write_text
 
@@ -48,8 +48,7 @@ class Report:
         found = Survey(self.requirements, self.asked, self.pool, self.inputs).run()
         found.near = list(near_names(self.requirements))
         if self.options.signals:
-            listed = read_signals(read_text(self.options.signals, MOST_TEXT), self.options.signals)
-            found.strange = list(strange_names(self.requirements, [it.name for it in listed]))
+            found.strange = list(strange_names(self.requirements, [it.name for it in listed(self.options.signals)]))
         return found
 
     def chapters(self, answers: Answers) -> List[Chapter]:

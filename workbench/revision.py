@@ -1,9 +1,9 @@
 """Which program answers: its version and revision, and whether it is proved."""
-import hashlib
 import os
 import subprocess
 from typing import List
 
+from kept import checksum_of
 from program import BUILT, ROOT, SCRIPT, Program
 
 RECORD = os.path.join(ROOT, "VERSION")  # where the workbench is installed, of all installed files
@@ -14,8 +14,7 @@ def revision(program: Program) -> str:
     path = program.command()
     if path in (BUILT, SCRIPT):
         return spoken(subprocess.run([SCRIPT, "--version"], stdout=subprocess.PIPE, check=False).stdout.decode("utf-8", "replace").splitlines())
-    with open(path, "rb") as file:
-        checksum = hashlib.sha256(file.read()).hexdigest()
+    checksum = checksum_of(path)
     with open(RECORD, encoding="utf-8", errors="replace") as file:
         record = file.read().splitlines()
     if any(line.split()[:1] == [checksum] for line in record):

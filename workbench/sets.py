@@ -12,12 +12,11 @@ import expand
 from asked import Finding, Members, Questions, Unanswered
 from joined import MOST_NAMES, Requirement, named, read_requirement
 from kept import Kept, Planned
-from language import MOST_TEXT, read_text
 from nearby import near_names, strange_names
 from program import Program
 from progress import Progress
 from sets_report import print_report, sentence, write_junit
-from signals import Signal, read_signals
+from signals import Signal, listed
 from sources import load
 
 Got = TypeVar("Got")
@@ -274,8 +273,7 @@ def run(options: argparse.Namespace, program: Program) -> int:
     if strange or len(folders) > 1:
         print(f"ask set: no file has a variable {strange[0]}" if strange else "ask set: --cache, --plan and --take are one without the others", file=sys.stderr)
         return 2
-    text = read_text(options.signals, MOST_TEXT).encode("latin-1").decode("utf-8", "replace") if options.signals else ""
-    signals = read_signals(text, options.signals)
+    signals = listed(options.signals)
     if folders:
         program.kept = Kept(folders[0], program.command()) if options.cache else Planned(folders[0], program.command(), asks=not options.plan)
     with program.side_by_side(max(1, options.jobs)) as pool:

@@ -7,7 +7,7 @@ from typing import TYPE_CHECKING, Dict, FrozenSet, Iterable, Iterator, List, Opt
 from asked import Finding
 from joined import Requirement, names_of
 from program import Program
-from streams import Unwritten, plain
+from streams import plain, write_text
 from waves import in_line, terminal_width
 
 if TYPE_CHECKING:
@@ -208,7 +208,4 @@ def write_junit(answers: "Answers", path: str) -> None:
         said = [it.sentence, *(f"{name}: {meaning}" for name in it.variables for meaning in [meanings_of(answers, name)] if meaning)] if it else []
         if any(said):
             xml.SubElement(case, "system-out").text = plain("\n".join(filter(None, said)))
-    try:
-        xml.ElementTree(suite).write(path, encoding="utf-8", xml_declaration=True)
-    except OSError as error:
-        raise Unwritten(f"{path} could not be written: {error.strerror}") from None
+    write_text(path, xml.tostring(suite, encoding="utf-8", xml_declaration=True).decode())

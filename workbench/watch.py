@@ -12,13 +12,13 @@ from expand import Text
 from glossary import glossary
 from joined import heading_of, named
 from judged import Judge
-from language import MOST_TEXT, natural, parse, read_text
+from language import natural, parse
 from lines import LogFault, Unnamed
 from logs import Settings, Source, letters_of
 from monitors import Heading, Monitor
 from program import Program, complain
 from shapes import is_number
-from signals import Signal, read_line, read_signals
+from signals import Signal, listed, read_line
 from times import UNITS, duration
 from watch_report import Lines, Text as TextReport, write_junit
 from waves import instants
@@ -170,20 +170,19 @@ def settings_of(options: argparse.Namespace, log: str, variables: Sequence[str])
     strange = [it.name for it in options.let if it.name not in variables]
     if strange:
         raise LogFault(f"--let: {strange[0]} is no variable of a requirement; these are: {', '.join(variables) or 'none'}")
-    return Settings(log, options.kind, dict(options.column), listed(options), options.hold, options.separator, options.follow, options.clock,
+    return Settings(log, options.kind, dict(options.column), signals_of(options), options.hold, options.separator, options.follow, options.clock,
                     options.period, options.time, options.unit, options.gap, options.anew, options.any)
 
 
-def listed(options: argparse.Namespace) -> List[Signal]:
+def signals_of(options: argparse.Namespace) -> List[Signal]:
     """The signals of the file, and those of --let."""
-    text = read_text(options.signals, MOST_TEXT).encode("latin-1").decode("utf-8", "replace") if options.signals else ""
-    return [*read_signals(text, options.signals), *options.let]
+    return [*listed(options.signals), *options.let]
 
 
 def origin(wanted: str, options: argparse.Namespace, headings: Sequence[Heading]) -> str:
     """Where a name comes from that the log has not: from a signal, or from requirements, and whether the file of signals has it."""
     name = next((variable for variable, column in options.column if column == wanted), wanted)
-    signals = listed(options)
+    signals = signals_of(options)
     users = [it for it in signals if it.has(wanted)]
     files = [it.path for it in headings if name in it.variables]
     if users and not any(it.expression and it.name == name for it in users):

@@ -5,7 +5,7 @@ from typing import Dict, Iterator, List, Sequence, Tuple
 
 from monitors import Heading, Monitor, Run
 from signals import Signal
-from streams import Unwritten, plain
+from streams import plain, write_text
 from waves import instants
 
 MOST = 100  # breaches of a requirement that are told in text
@@ -118,7 +118,4 @@ def write_junit(monitors: Sequence[Monitor], count: int, log: str, path: str) ->
             xml.SubElement(case, "failure", message=plain(said)).text = plain(said)
         if heading.sentence:
             xml.SubElement(case, "system-out").text = plain(heading.sentence)
-    try:
-        xml.ElementTree(suite).write(path, encoding="utf-8", xml_declaration=True)
-    except OSError as error:
-        raise Unwritten(f"{path} could not be written: {error.strerror}") from None
+    write_text(path, xml.tostring(suite, encoding="utf-8", xml_declaration=True).decode())

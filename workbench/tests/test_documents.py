@@ -2,12 +2,13 @@
 import random
 import unittest
 
-from documents import Document, raw_of, utf8
+from documents import Document, raw_of
 from language import read_text
 from layout import formatted
 from navigation import folding, rename
 from protocol import Failed
 from scopes import Names
+from spots import utf8
 from support import examples
 
 PIECES = ("a", "é", "\U0001F600", "\n", "\r\n", "\r", " ", "infer", "//")

@@ -156,6 +156,13 @@ class Revision(WithFolder):
             self.assertEqual(revision.revision(Program(path)), "dcvalid 1.0.0, proved: yes: all of it")
             self.assertIn("not known here", revision.revision(Program(self.file("other", "something else"))))
 
+    def test_found_in_the_search_path(self):
+        """A program that is named without a folder is the one that the search path finds."""
+        path = self.file("named-alone", "anything")
+        os.chmod(path, 0o755)
+        with mock.patch.dict(os.environ, {"PATH": self.folder}):
+            self.assertEqual(revision.revision(Program("named-alone")), revision.revision(Program(path)))
+
 
 class Pictures(unittest.TestCase):
     def test_rows(self):
