@@ -3,6 +3,7 @@ PREFIX = /usr/local
 DESTDIR =
 PYTHON = python3
 UNPROVED =
+STOP =
 PROGRAM = crates/dcvalid/out/dcvalid
 TOP = $(DESTDIR)$(PREFIX)
 SHARE = share/dcvalid
@@ -17,7 +18,7 @@ all:
 	@echo 'make check-install PREFIX=/usr/local compares what is installed with its checksums'
 	@echo 'make uninstall PREFIX=/usr/local     removes all of it'
 	@echo 'make deb [UNPROVED=1]                makes a Debian package of the same files, in out/'
-	@echo 'make test                            runs the tests that the gate does not run'
+	@echo 'make test [STOP=1]                   runs the tests that the gate does not run; STOP=1 ends at the first failure'
 
 install:
 	@./dcvalid $(if $(UNPROVED),,--require-proof) --build
@@ -27,6 +28,7 @@ install:
 	install -m 644 workbench/*.py '$(TOP)/$(SHARE)/workbench'
 	install -m 644 workbench/c/* '$(TOP)/$(SHARE)/workbench/c'
 	install -m 644 patterns/*.dc '$(TOP)/$(SHARE)/patterns'
+	cp -R editors '$(TOP)/$(SHARE)'
 	$(PYTHON) workbench/pages.py man >'$(TOP)/$(MAN)/dcvalid.1'
 	ln -sf dcvalid.1 '$(TOP)/$(MAN)/ask.1'
 	$(PYTHON) workbench/pages.py bash >'$(TOP)/$(COMPLETIONS)/dcvalid'
@@ -51,4 +53,4 @@ deb:
 	@packaging/deb '$(UNPROVED)'
 
 test:
-	@tests/all.py
+	@STOP='$(STOP)' tests/all.py

@@ -19,6 +19,7 @@
 # With nothing else on the machine, 7,006,781 suffixes in 133,477,338 bytes, nearly all of which go on by the letter 0 from one of the first ten, take 339 seconds and
 # 518 megabytes. The time of `apart` grows with states by suffixes, 1.5 ns each; where each suffix has a letter of its own, a walk through each state's row comes to that.
 set -euo pipefail
+here=$(cd "$(dirname "$(readlink -f "${BASH_SOURCE[0]}")")" && pwd)
 built=$(mktemp -d)
 trap 'rm -rf "$built"' EXIT
 
@@ -43,10 +44,8 @@ printf '%6s %10s %11s %9s %9s\n' kind suffixes bytes seconds megabytes
 for kind in same apart; do
   for suffixes in "${@:-18600}"; do
     text "$kind" "$suffixes" >"$built/text"
-    /usr/bin/time -f '%U %M' -o "$built/used" "$DCVALID" certify "$built/text" >/dev/null || true
-    # `time` writes a line before this one where the status is not 0.
-    read -r seconds memory < <(tail -n 1 "$built/used")
-    awk -v k="$kind" -v n="$suffixes" -v b="$(wc -c <"$built/text")" -v s="$seconds" -v m="$memory" \
-      'BEGIN { printf "%6s %10d %11d %9.1f %9.1f\n", k, n, b, s, m / 1024 }'
+    read -r _ cpu memory _ < <("$here/measured.py" 1 /dev/null /dev/null "$DCVALID" certify "$built/text")
+    awk -v k="$kind" -v n="$suffixes" -v b="$(wc -c <"$built/text")" -v t="$cpu" -v m="$memory" \
+      'BEGIN { printf "%6s %10d %11d %9.1f %9.1f\n", k, n, b, t / 1e6, m / 1024 }'
   done
 done

@@ -80,21 +80,13 @@ done
 awk 'BEGIN { print "define m0 as pt;"; for (i = 1; i < 15; i++) printf "define m%d as m%d && m%d;\n", i, i - 1, i - 1; print "infer m14;" }' >"$files/m14"
 { printf 'infer '; for _ in $(seq 32); do printf 'ex a. '; done; echo 'pt;'; } >"$files/slots 32"
 
-# The least time and the most memory of the command, and its first line.
+# The least wall and processor time and the most memory of the command; its output is kept.
 measure() {
-  local least= most= begun took kept
-  for _ in $(seq "${RUNS:-5}"); do
-    begun=${EPOCHREALTIME/./}
-    /usr/bin/time -o "$files/.kept" -f %M "$@" >"$files/.out" 2>"$files/.err" || true
-    took=$((${EPOCHREALTIME/./} - begun))
-    kept=$(tail -n 1 "$files/.kept")
-    [ -n "$least" ] && [ "$least" -le "$took" ] || least=$took
-    [ -n "$most" ] && [ "$most" -ge "$kept" ] || most=$kept
-  done
-  awk -v t="$least" -v m="$most" 'BEGIN { printf "%9.1f ms %7.1f MB", t / 1000, m / 1024 }'
+  "$here/measured.py" "${RUNS:-5}" "$files/.out" "$files/.err" "$@" |
+    awk '{ printf "%9.1f ms %9.1f ms %7.1f MB", $1 / 1000, $2 / 1000, $3 / 1024 }'
 }
 
-printf '%-22s %12s %10s  %s\n' case time memory answer
+printf '%-22s %12s %12s %10s  %s\n' case time processor memory answer
 for file in "$files"/*; do
   name=$(basename "$file")
   [ $# -eq 0 ] || [[ " $* " == *" $name "* ]] || continue
@@ -102,7 +94,7 @@ for file in "$files"/*; do
   printf '%-22s %s  %s\n' "$name" "$figures" "$(cat "$files/.out" "$files/.err" | head -n 1)"
   if [ -n "${MONA:-}" ] && [[ $name = *.dc ]]; then
     python3 "$here/to_mona.py" "$file" >"$files/.mona"
-    figures=$(measure timeout 60 mona -q "$files/.mona")
+    figures=$(LIMIT=60 measure mona -q "$files/.mona")
     printf '%-22s %s  %s\n' '  by MONA' "$figures" "$(grep -m 1 -i -E 'valid|least length' "$files/.out")"
   fi
 done

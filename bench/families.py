@@ -2,7 +2,7 @@
 """Writes formula files of the kinds that users of MONA write, each by a parameter or two. For measuring beside MONA, by hand:
 
     bench/families.py FAMILY N ..     one file, to the output
-    bench/families.py FOLDER          the cases that bench/families.sh measures, each into a file of the folder
+    bench/families.py FOLDER          the cases that bench/beside_mona.py measures, each into a file of the folder
 
     arbiter N K      an arbiter of N clients; a client that asks at K instants in a row is granted at one of these
     layers N         N layers of macros that swap and negate their arguments, around windows of up to 15 instants

@@ -35,12 +35,6 @@ awk 'BEGIN { print "var p; define F0(a) as pt;"; for (i = 1; i < 100; i++) print
 { doubled 256; echo 'infer m255;'; } >"$files/refused"
 
 for file in small largest written unused refused; do
-  least=
-  for _ in $(seq "${RUNS:-20}"); do
-    begun=${EPOCHREALTIME/./}
-    said=$("$program" check "$files/$file" 2>&1) || true
-    took=$((${EPOCHREALTIME/./} - begun))
-    [ -n "$least" ] && [ "$least" -le "$took" ] || least=$took
-  done
-  printf '%-8s %7d bytes %5d.%03d ms  %s\n' "$file" "$(wc -c <"$files/$file")" $((least / 1000)) $((least % 1000)) "${said%%$'\n'*}"
+  read -r least _ < <("$here/measured.py" "${RUNS:-20}" "$files/out" "$files/err" "$program" check "$files/$file")
+  printf '%-8s %7d bytes %5d.%03d ms  %s\n' "$file" "$(wc -c <"$files/$file")" $((least / 1000)) $((least % 1000)) "$(cat "$files/out" "$files/err" | head -n 1)"
 done

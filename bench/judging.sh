@@ -26,15 +26,9 @@ trap 'rm -rf "$folder"' EXIT
 
 # Runs a command so often, and prints the least time and the most memory behind a name.
 measure() {
-  local name=$1 took= kept=0
+  local name=$1 took kept
   shift
-  for _ in $(seq "${RUNS:-3}"); do
-    local begun=${EPOCHREALTIME/./} now memory
-    /usr/bin/time -o "$folder/.kept" -f %M "$@" >"$folder/.out" 2>"$folder/.err" || true
-    now=$((${EPOCHREALTIME/./} - begun)) memory=$(tail -n 1 "$folder/.kept")
-    [ -n "$took" ] && [ "$took" -le "$now" ] || took=$now
-    [ "$kept" -ge "$memory" ] || kept=$memory
-  done
+  read -r took _ kept _ < <("$here/measured.py" "${RUNS:-3}" "$folder/.out" "$folder/.err" "$@")
   awk -v n="$name" -v t="$took" -v m="$kept" -v o="$(head -c 60 "$folder/.out" "$folder/.err" | grep -v '^==>' | tr '\n' ' ')" \
     'BEGIN { printf "%-18s %8.1f ms %7.1f MB   %s\n", n, t / 1000, m / 1024, o }'
 }

@@ -46,16 +46,7 @@ if [ $# -eq 0 ]; then
 fi
 
 # Runs a command so often, and leaves the least time (in microseconds) and the most memory (in kB) in `took` and `kept`.
-measure() {
-  took= kept=0
-  for _ in $(seq "${RUNS:-3}"); do
-    local begun=${EPOCHREALTIME/./} now memory
-    /usr/bin/time -o "$folder/.kept" -f %M "$@" >"$folder/.out" 2>/dev/null || true
-    now=$((${EPOCHREALTIME/./} - begun)) memory=$(tail -n 1 "$folder/.kept")
-    [ -n "$took" ] && [ "$took" -le "$now" ] || took=$now
-    [ "$kept" -ge "$memory" ] || kept=$memory
-  done
-}
+measure() { read -r took _ kept _ < <("$here/measured.py" "${RUNS:-3}" "$folder/.out" "/dev/null" "$@"); }
 
 printf '%-20s %10s %8s %8s %8s   %8s %8s   %8s %8s\n' file automaton c lustre all 'MB' 'of all' 'C kB' 'gcc s'
 for file in "$@"; do

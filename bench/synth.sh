@@ -30,16 +30,7 @@ folder=$(mktemp -d)
 trap 'rm -rf "$folder"' EXIT
 
 # Runs a command so often, and leaves the least time and the most memory in `took` and `kept`.
-measure() {
-  took= kept=0
-  for _ in $(seq "${RUNS:-3}"); do
-    local begun=${EPOCHREALTIME/./} now memory
-    /usr/bin/time -o "$folder/.kept" -f %M "$@" >"$folder/.out" 2>"$folder/.err" || true
-    now=$((${EPOCHREALTIME/./} - begun)) memory=$(tail -n 1 "$folder/.kept")
-    [ -n "$took" ] && [ "$took" -le "$now" ] || took=$now
-    [ "$kept" -ge "$memory" ] || kept=$memory
-  done
-}
+measure() { read -r took _ kept _ < <("$here/measured.py" "${RUNS:-3}" "$folder/.out" "$folder/.err" "$@"); }
 
 # one NAME INPUTS FILE
 one() {

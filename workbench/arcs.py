@@ -3,15 +3,19 @@ from typing import Dict, List, Tuple
 
 from automaton import Automaton
 from conditions import conditions, is_final
-from pictures import GRAY, GREEN, INK, RED, page, text_width, words
+from pictures import page, text_width, words
 
 Arc = Tuple[int, int, List[str]]  # from a state to another one, and the lines of its label
-Line = Tuple[str, int, str, str]  # its text, size, colour and weight
+Line = Tuple[str, int, str, str]  # its text, size, class and weight
 
 MOST_STATES = 12  # a larger automaton is a table
 LINE, LABEL = 15, 13  # heights of a line in a box, and of one of a label
-ARROW = (f'<defs><marker id="arrow" viewBox="0 0 8 8" refX="7" refY="4" markerWidth="8" markerHeight="8" orient="auto">'
-         f'<path d="M0 0L8 4L0 8z" fill="{INK}"/></marker></defs>')
+
+
+def arrow(name: str) -> str:
+    """The head of the arcs, which are drawn with it by its id."""
+    return (f'<defs><marker id="{name}" viewBox="0 0 8 8" refX="7" refY="4" markerWidth="8" markerHeight="8" orient="auto">'
+            f'<path class="arrow" d="M0 0L8 4L0 8z"/></marker></defs>')
 
 
 def lines_of(found: List[str]) -> List[str]:
@@ -39,12 +43,12 @@ class Diagram:
 
     def _box(self, state: int, edges: Dict[int, List[str]]) -> List[Line]:
         """The lines in a state's box: its number, by what it is kept, and by what the requirement is lost."""
-        lines = [(str(state), 13, "#222", "bold")]
-        own = [(edges[state], "stays: ", "#333")] if state in edges else []
-        own += [(found, "broken: ", RED) for target, found in edges.items() if target in self.lost and target != state]
-        for found, head, color in own:
+        lines = [(str(state), 13, "text", "bold")]
+        own = [(edges[state], "stays: ", "text")] if state in edges else []
+        own += [(found, "broken: ", "broken-text") for target, found in edges.items() if target in self.lost and target != state]
+        for found, head, kind in own:
             for number, text in enumerate(lines_of(found)):
-                lines.append(((head if number == 0 else " " * len(head)) + text, 11, color, "normal"))
+                lines.append(((head if number == 0 else " " * len(head)) + text, 11, kind, "normal"))
         return lines
 
     def _measure(self) -> None:
@@ -85,42 +89,42 @@ class Diagram:
         return ports
 
 
-def automaton_svg(automaton: Automaton, title: str) -> str:
+def automaton_svg(automaton: Automaton, title: str, name: str = "arrow", is_styled: bool = True) -> str:
+    """The picture; `name` is the id of its arrows, which no other picture of a page has."""
     drawn = Diagram(automaton)
     width = max(drawn.size[0], text_width(title, 13) + 24)
-    parts, labels = [ARROW, words(12, 22, title, 13, INK, weight="bold")], []
+    parts, labels = [arrow(name), words(12, 22, title, 13, "title", weight="bold")], []
     for arc in drawn.arcs:
-        path, label = _arc(drawn, arc)
+        path, label = _arc(drawn, arc, name)
         parts.append(path)
         labels += label
     for state in drawn.shown:
         labels += _boxed(drawn, state)
     y = (drawn.top + drawn.bottom) / 2
-    parts.append(f'<path d="M10 {y:.1f}H44" stroke="{INK}" fill="none" marker-end="url(#arrow)"/>')
-    return page(width, drawn.size[1], parts + labels)
+    parts.append(f'<path class="line" d="M10 {y:.1f}H44" fill="none" marker-end="url(#{name})"/>')
+    return page(width, drawn.size[1], parts + labels, is_styled)
 
 
-def _arc(drawn: Diagram, arc: Arc) -> Tuple[str, List[str]]:
+def _arc(drawn: Diagram, arc: Arc, name: str) -> Tuple[str, List[str]]:
     state, target, label = arc
     begin, end = drawn.ports[(state, target, "from")], drawn.ports[(state, target, "to")]
     y, sign = (drawn.top, -1) if drawn.goes_on(arc) else (drawn.bottom, 1)
     pull = y + sign * drawn.height(arc) * 4 / 3
-    path = (f'<path d="M{begin:.1f} {y} C{begin:.1f} {pull:.1f} {end:.1f} {pull:.1f} {end:.1f} {y + sign * 2}" stroke="{INK}" fill="none" '
-            f'marker-end="url(#arrow)"/>')
+    path = (f'<path class="line" d="M{begin:.1f} {y} C{begin:.1f} {pull:.1f} {end:.1f} {pull:.1f} {end:.1f} {y + sign * 2}" fill="none" '
+            f'marker-end="url(#{name})"/>')
     middle, parts = (begin + end) / 2, []
     top = y + sign * drawn.height(arc) + 4 - (LABEL * (len(label) - 1) if sign < 0 else 0)
     for number, text in enumerate(label):
         line, half = top + LABEL * number, text_width(text, 11) / 2
-        parts.append(f'<rect x="{middle - half - 3:.1f}" y="{line - 10:.1f}" width="{2 * half + 6:.1f}" height="{LABEL}" fill="white"/>')
-        parts.append(words(middle, line, text, 11, "#333", "middle"))
+        parts.append(f'<rect class="paper" x="{middle - half - 3:.1f}" y="{line - 10:.1f}" width="{2 * half + 6:.1f}" height="{LABEL}"/>')
+        parts.append(words(middle, line, text, 11, "text", "middle"))
     return path, parts
 
 
 def _boxed(drawn: Diagram, state: int) -> List[str]:
-    fill, edge = ("#e3f1e4", GREEN) if drawn.automaton.accept[state] else ("#f3d9d6", RED) if state in drawn.lost else ("#f4f4f4", GRAY)
+    kind = "holds" if drawn.automaton.accept[state] else "broken" if state in drawn.lost else "open"
     left = drawn.middle(state) - drawn.box_width / 2
-    parts = [f'<rect x="{left:.1f}" y="{drawn.top}" width="{drawn.box_width:.1f}" height="{drawn.box_height}" rx="8" fill="{fill}" '
-             f'stroke="{edge}" stroke-width="2"/>']
-    for number, (text, size, color, weight) in enumerate(drawn.boxes[state]):
-        parts.append(words(left + 9, drawn.top + 19 + LINE * number, text, size, color, weight=weight))
+    parts = [f'<rect class="{kind}" x="{left:.1f}" y="{drawn.top}" width="{drawn.box_width:.1f}" height="{drawn.box_height}" rx="8" stroke-width="2"/>']
+    for number, (text, size, kind, weight) in enumerate(drawn.boxes[state]):
+        parts.append(words(left + 9, drawn.top + 19 + LINE * number, text, size, kind, weight=weight))
     return parts

@@ -24,6 +24,7 @@ class Command(NamedTuple):
 STATES = Option("--states", "N", f"the most states of a step, 1 to {limits.STATES} ({limits.DEFAULT_STATES} where it is not given)")
 NODES = Option("--nodes", "N", f"the most diagram nodes of a step, 1 to {limits.NODES} ({limits.NODES} where it is not given)")
 LIMITS = (STATES, NODES)
+TUPLES = Option("--tuples", "N", f"the most tuples of states before an answer, 1 to {limits.TUPLES} ({limits.DEFAULT_TUPLES} where it is not given)")
 SHOW = Option("--show", "", "writes each file that the program is asked about on standard error")
 
 ASK = (
@@ -34,10 +35,13 @@ ASK = (
     Command("tests", "FILE", "a test suite that tells the requirement from every other of as many states"),
     Command("watch", "FILE LOG", "a log, recorded or live, against one requirement or many, by the names of their variables"),
     Command("tables", "FILE", "an observer as C tables for several instances, or several requirements that share the code"),
+    Command("export", "FILE", "the automaton as DOT, HOA, JSON or a monitor in Verilog; or a controller in Verilog"),
     Command("patterns", "[NAME]", "the patterns of requirements with their sentences, or one of them in full"),
     Command("pattern", "NAME ..", "a requirement made from a pattern, its propositions and its numbers"),
     Command("expand", "FILE", "a file with constants, sums, numbers as arguments and use, as a file of the language"),
+    Command("serve", "", "a language server over standard input and output, for an editor"),
     Command("set", "FILE ..", "several requirements together: contradictions, where they get stuck, what follows from the others"),
+    Command("report", "FILE ..", "one page in HTML about requirements, for a review meeting: text, verdict, waves, signals, automaton, tests"),
     Command("register", "TABLE", "a table of requirements (id;sentence;pattern;arguments) as a folder of files, and a folder as a table"),
     Command("verify", "FILE", "the program's answers checked step by step, by a script that trusts neither its proofs nor its compiler"),
 )
@@ -58,6 +62,8 @@ PROGRAM = (
     Command("replay-lustre", "OBSERVER TRACE", "what an observer in Lustre answers at each instant of a trace"),
     Command("replay-c", "OBSERVER TRACE", "what an observer in C answers at each instant of a trace"),
     Command("sweep", "SEED COUNT", "counts over 1 to 1000 formulas that are drawn from a seed"),
+    Command("together", "FILE ..", "whether requirements can be satisfied together, and whether what has kept to all so far can always go on", LIMITS + (TUPLES,)),
+    Command("follows", "FILE ..", "whether the first requirement follows from the others, or a shortest behaviour that shows that it does not", LIMITS + (TUPLES,)),
 )
 
 # Commands whose module has another name.

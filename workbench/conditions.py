@@ -1,29 +1,36 @@
 """What the letters on the edges of an automaton have in common, as short propositions; and an automaton as a table of these."""
-from typing import Dict, List, Tuple
+from itertools import islice
+from typing import Dict, Iterator, List, Tuple
 
 from automaton import Automaton, Choice, Diagram
 from waves import in_line
 
 Cube = Dict[int, bool]  # the values of some variables
+Path = Tuple[Tuple[int, bool], ...]  # the same, in the order of a diagram
 
 MOST_PATHS = 400  # of a diagram with more paths than these, only where they lead is said
 
 
 def conditions(automaton: Automaton, state: int) -> Dict[int, List[str]]:
     """For each state that one letter leads to from this one, propositions of which one holds of each such letter."""
+    found = list(islice(paths(automaton.rows[state]), MOST_PATHS + 1))
+    if len(found) > MOST_PATHS:
+        return {target: ["some letters"] for target in sorted(automaton.targets(state))}
     cubes: Dict[int, List[Cube]] = {}
-    todo: List[Tuple[Diagram, Tuple[Tuple[int, bool], ...]]] = [(automaton.rows[state], ())]
-    paths = 0
+    for target, path in found:
+        cubes.setdefault(target, []).append(dict(path))
+    return {target: [_spoken(automaton.variables, cube) for cube in merged(those)] for target, those in sorted(cubes.items())}
+
+
+def paths(row: Diagram) -> Iterator[Tuple[int, Path]]:
+    """The paths of a state's diagram, each with the state that it leads to."""
+    todo: List[Tuple[Diagram, Path]] = [(row, ())]
     while todo:
-        diagram, cube = todo.pop()
+        diagram, path = todo.pop()
         if isinstance(diagram, Choice):
-            todo += [(diagram.low, cube + ((diagram.variable, False),)), (diagram.high, cube + ((diagram.variable, True),))]
-            continue
-        paths += 1
-        if paths > MOST_PATHS:
-            return {target: ["some letters"] for target in sorted(automaton.targets(state))}
-        cubes.setdefault(diagram, []).append(dict(cube))
-    return {target: [_spoken(automaton.variables, cube) for cube in merged(found)] for target, found in sorted(cubes.items())}
+            todo += [(diagram.low, path + ((diagram.variable, False),)), (diagram.high, path + ((diagram.variable, True),))]
+        else:
+            yield diagram, path
 
 
 def merged(cubes: List[Cube]) -> List[Cube]:

@@ -11,6 +11,7 @@ from arcs import MOST_STATES, automaton_svg
 from automaton import Automaton, read_automaton
 from conditions import automaton_lines
 from expand import Text
+from glossary import glossary
 from language import MOST_TEXT, Fault, parse, read_text
 from pictures import Behaviour, vcd, waves_svg
 from program import Program
@@ -30,6 +31,7 @@ def add_arguments(parser: argparse.ArgumentParser) -> None:
     parser.add_argument("--automaton", action="store_true", help="of a formula: its automaton, not its behaviours")
     parser.add_argument("--only", choices=("counterexample", "example"), help="one of the two behaviours")
     parser.add_argument("--names", metavar="NAMES", help="the variables of a report or a trace, as request,grant, or a formula file that declares them")
+    parser.add_argument("--signals", metavar="LIST", help="a file of signals, whose comments say what the variables mean")
 
 
 def run(options: argparse.Namespace, program: Program) -> int:
@@ -45,7 +47,7 @@ def run(options: argparse.Namespace, program: Program) -> int:
             return draw_automaton(program.automaton(text), name, options)
         found = behaviours(kind, text, name, options, program)
         if options.only:
-            found = [it for it in found if it[3] == (options.only == "counterexample")]
+            found = [it for it in found if (it.marked is not None) == (options.only == "counterexample")]
         return draw_behaviours(found, options)
     except NotDrawn as reason:
         print(f"ask draw: {reason}", file=sys.stderr)
@@ -56,12 +58,12 @@ def run(options: argparse.Namespace, program: Program) -> int:
 
 
 def behaviours(kind: Optional[str], text: str, name: str, options: argparse.Namespace, program: Program) -> List[Behaviour]:
-    """Behaviours with their titles and variables, and whether each is a counterexample."""
+    """Behaviours with their titles and variables; of a counterexample the last instant is marked."""
     variables: Optional[List[str]] = None
     comparison: Optional[str] = None
     if kind == "a trace":
         trace = text.split()
-        return [(f"{name}, {len(trace)} instants", names(options, trace), trace, False)]
+        return [Behaviour(f"{name}, {len(trace)} instants", names(options, trace), trace)]
     if kind in ("a report of check", "a report of all", "a report of implies"):
         found = words_of(text.split("--- automaton")[0])
         declared = re.search(r"^variables (.*)$", text, re.M)
@@ -73,8 +75,9 @@ def behaviours(kind: Optional[str], text: str, name: str, options: argparse.Name
         variables = list(parse(text).variables)
     else:
         raise NotDrawn(f"{name} is {kind}, of which there is no picture")
-    return [(f"{name}: " + heading("a shortest behaviour that " + (comparison or ("breaks it" if what == "counterexample" else "meets it")), word)[:-1],
-             names(options, word) if variables is None else [it for it in variables if it != "-"], word, what == "counterexample")
+    return [Behaviour(f"{name}: " + heading("a shortest behaviour that " + (comparison or ("breaks it" if what == "counterexample" else "meets it")), word)[:-1],
+                      names(options, word) if variables is None else [it for it in variables if it != "-"], word,
+                      len(word) - 1 if what == "counterexample" else None)
             for what, word in found.items()]
 
 
@@ -109,11 +112,13 @@ def draw_behaviours(found: Sequence[Behaviour], options: argparse.Namespace) -> 
     if options.svg:
         return written(options.svg, waves_svg(found))
     if options.vcd:
-        return written(options.vcd, vcd(found[0][1], found[0][2]))
+        return written(options.vcd, vcd(found[0].variables, found[0].word))
+    said = meanings(found[0].variables, options)
     for number, (title, variables, word, _) in enumerate(found):
         print(("\n" if number else "") + title)
         for line in table(variables, word) if options.table else waves(variables, word):
             print(f"  {line}".rstrip())
+    print("".join(line + "\n" for line in said), end="")
     return 0
 
 
@@ -125,10 +130,20 @@ def draw_automaton(automaton: Automaton, name: str, options: argparse.Namespace)
         raise NotDrawn(f"this automaton has {states}; those of more than {MOST_STATES} are tables: leave out --svg")
     if options.svg:
         return written(options.svg, automaton_svg(automaton, f"{name}: {states}; green: the requirement holds so far"))
+    said = meanings(automaton.variables, options)
     print(f"{name}: {states}")
     for line in automaton_lines(automaton):
         print(f"  {line}")
+    print("".join(line + "\n" for line in said), end="")
     return 0
+
+
+def meanings(variables: Sequence[str], options: argparse.Namespace) -> List[str]:
+    """The glossary of the variables, by the comments of the file and of the list of signals."""
+    text = read_text(options.file, MOST_TEXT)
+    found = glossary(text + f"\nvar {', '.join(variables)};\n", options.signals)
+    lines = [f"  {name}: {found[name]}" for name in variables if name in found]
+    return ["", *lines] if lines else []
 
 
 def written(path: str, text: str) -> int:

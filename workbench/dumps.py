@@ -2,7 +2,7 @@
 import os
 from typing import Dict, Iterable, Iterator, List, Optional, Sequence, Set, Tuple
 
-from lines import LogFault, chunks, name_of
+from lines import LogFault, Unnamed, chunks, name_of
 from tabular import Block
 
 Changes = List[Tuple[str, str]]  # codes of signals and their values
@@ -54,7 +54,7 @@ class Vcd:
         """Behind the declarations: each signal is there, once, and one bit wide."""
         for name, found in self.found.items():
             if not found:
-                raise LogFault(f"{self.path}: no signal is named {name}")
+                raise Unnamed(f"{self.path}: no signal is named {name}", name)
             if len(found) > 1:
                 paths = ", ".join(sorted(path for path, _ in found.values()))
                 raise LogFault(f"{self.path}: several signals are named {name}: {paths}; --column {name}=PATH names one")

@@ -272,12 +272,13 @@ class Expansion:
 
     def origin(self, place: int) -> Tuple[Piece, int]:
         """The piece that holds a place of the new text, and the place in its source."""
+        pieces = self.pieces or [Piece("", self.main, 0, True, None)]  # of an empty file
         starts, at = [], 0
-        for piece in self.pieces:
+        for piece in pieces:
             starts.append(at)
             at += len(piece.text)
         number = max(0, bisect_right(starts, place) - 1)
-        piece = self.pieces[number]
+        piece = pieces[number]
         return piece, piece.place + (place - starts[number] if piece.exact else 0)
 
 

@@ -15,7 +15,7 @@ from automaton import Automaton
 from commands import PROGRAM
 from expand import place_of
 from operands import Question
-from program import NO_PROGRAM, SCRIPT, Answer, Program, Refusal
+from program import NO_PROGRAM, SCRIPT, Answer, Program, Refusal, place_of_file
 from spots import shown
 from waves import heading, instants, spoken_runs, table, waves
 
@@ -58,16 +58,17 @@ class Explainer:
         return self.report(output)
 
     def report(self, output: str) -> List[str]:
-        """A report of check, stuck, implies or certify."""
+        """A report of check, stuck, implies, certify, together or follows."""
         lines, words = [], words_of(output)
-        compared = "does not imply" in output.split("\n")[:1]
+        compared, joint = "does not imply" in output.split("\n")[:1], re.match("variables (.*)\n", output)
+        variables = joint.group(1).split() if joint else self.question.variables()
         for line in output.splitlines():
-            lines += [said.format(*match.groups()) for pattern, said in SENTENCES for match in [re.fullmatch(pattern, line)] if match]
+            lines += [said.format(*match.groups()) for pattern, said in (SET_SENTENCES if joint else SENTENCES) for match in [re.fullmatch(pattern, line)] if match]
         for kind, word in words.items():
             if not word:
                 continue
-            does = DOES["outside" if compared else kind]
-            lines += ["", heading(f"A shortest behaviour that {does}", word), *self.drawn(self.question.variables(), word)]
+            does = (SET_DOES if joint else DOES)["outside" if compared else kind]
+            lines += ["", heading(f"A shortest behaviour that {does}", word), *self.drawn(variables, word)]
         return lines
 
     def replayed(self, output: str) -> List[str]:
@@ -116,9 +117,9 @@ class Explainer:
         message, status = answer.error.strip(), answer.status
         lines = [message]
         if status in (3, 4):
-            second = message.endswith(" in second")
-            whole = self.question.wholes.get(int(second))
-            lines = (faults.refused(whole, message, self.program) if whole else None) or faults.described(self.question.shown[second], self.question.text(second), message, self.program)
+            number = place_of_file(message)
+            whole = self.question.wholes.get(number)
+            lines = (faults.refused(whole, message, self.program) if whole else None) or faults.described(self.question.shown[number], self.question.text(number), message, self.program)
         elif status == 5:
             lines += self.unread(message)
         elif status in (9, 10):
@@ -185,6 +186,19 @@ def play(automaton: Automaton, moves: Dict[int, Tuple[int, str]]) -> List[str]:
 
 DOES = {"counterexample": "breaks it", "example": "meets it", "outside": "meets the first and breaks the second",
         "stuck": "keeps to it at each instant, and that no next instant continues"}
+
+SET_DOES = {"possible": "meets all of them", "stuck": "keeps to all of them at each instant, and that no next instant continues",
+            "does not follow": "meets all the others and breaks the first"}
+
+SET_SENTENCES = (
+    (r"possible \d+", "possible: some behaviour meets all the requirements"),
+    ("impossible", "impossible: no behaviour meets all the requirements"),
+    ("never stuck", "never stuck: whatever has kept to all of them so far can go on"),
+    ("stuck 0", "stuck at once: no behaviour of one instant meets all of them"),
+    (r"stuck [1-9]\d*", "stuck: some behaviour keeps to all of them so far, and no next instant keeps to all"),
+    ("follows", "follows: each behaviour that meets all the others meets the first requirement"),
+    (r"does not follow \d+", "does not follow: some behaviour meets all the others and breaks the first requirement"),
+)
 
 SENTENCES = (
     ("valid", "valid: each behaviour meets the requirement"),

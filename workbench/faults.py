@@ -7,7 +7,7 @@ import expand
 import hints
 import repairs
 from language import MOST_BYTES
-from program import NO_PROGRAM, Fault, Program, Refusal, fault_of
+from program import NO_PROGRAM, Fault, Program, Refusal, fault_of, place_of_file
 from shapes import SourceFault
 from spots import Spot
 
@@ -69,7 +69,7 @@ def repaired(program: Program, text: str, fault: Fault) -> List[str]:
         tokens = repairs.may_stand(program, text, fault.place)
         lines.append(f"  May stand here: {repairs.spoken(text, fault.place, tokens)}")
     if fault.kind in ("syntax", "byte", "unknown", "kind"):
-        told = repairs.changes(program, text, fault, tokens)
+        told = repairs.phrases(repairs.repairs(program, text, fault, tokens))
         if told:
             lines.append(f"  No fault is left if you {', or '.join(told)}.")
     return lines
@@ -81,7 +81,7 @@ def explained(refusal: Refusal, path: Optional[str], name: str, program: Program
     said = [line for line in (refusal.message, *hints.of_message(refusal.message)) if line]
     if refusal.status not in (3, 4) or not path or not refusal.texts:
         return said, refusal.status
-    text = refusal.texts[-1 if refusal.message.endswith(" in second") else 0]
+    text = refusal.texts[place_of_file(refusal.message)]
     try:
         whole = expand.Text(path, name)
     except (OSError, SourceFault):

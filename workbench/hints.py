@@ -60,7 +60,8 @@ OTHERS = {
     "arity": ["The macro {word} is used with another number of arguments than it has parameters."],
     "size": [f"The goal, with each macro in the place of its call, has more than {limits.GOAL_NODES} nodes."],
     "depth": [f"The goal, with each macro in the place of its call, nests more than {limits.GOAL_DEPTH} nodes one below another."],
-    "slots": [f"Declared variables, different prior and next propositions, and quantifiers that stand one inside another, are more than {limits.SLOTS} together."],
+    "names": [f"The files have {limits.JOINT_NAMES} names at most together; {{word}} is one more."],
+    "slots": [f"Declared variables, those of all files where there are several, different prior and next propositions, and quantifiers that stand one inside another, are more than {limits.SLOTS} together."],
     "shift": ["A quantified variable has no value of its own at another instant: -P and +P may look at declared variables alone."],
 }
 
@@ -68,8 +69,9 @@ MESSAGES = (
     (r"fault declarations", "Both files have to declare the same variables in the same order."),
     (r"fault outputs", f"The first variables, as many as --inputs says, are the inputs: that is more than the file declares, or it leaves more than {limits.OUTPUTS} outputs."),
     (r"budget .* in product", "Each of the two automata is within the limit, but what is compared has a state for each pair that a behaviour leads to."),
+    (r"budget tuples ", f"More tuples of states, one of each file, are reached before an answer; --tuples N sets the limit (up to {limits.TUPLES})."),
     (r"fault write", "The report could not be written: the disk is full, or the reader of the output has gone."),
-    (r"fault memory", "Memory ran out. A smaller --states or --nodes ends such a run with the step that is too large."),
+    (r"fault memory", "Memory ran out. A smaller --states, --nodes or --tuples ends such a run with the step that is too large."),
     (r"fault line ", "That line of the trace, counted from 1, is no instant: a 0 or 1 for each input of the observer, or - where it has none."),
     (r"fault trace empty", "The trace has no line."),
     (r"fault trace length", f"A trace has {limits.TRACE_LINES} lines at most."),

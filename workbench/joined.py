@@ -5,6 +5,7 @@ from dataclasses import dataclass, field, replace
 from typing import Callable, Dict, FrozenSet, Iterable, Iterator, List, Optional, Sequence, Tuple
 
 import limits
+from glossary import glossary, sentence_of
 from language import File, Tree, parse, read_text, to_text
 
 MOST_NAMES = limits.VARIABLES
@@ -21,6 +22,7 @@ class Requirement:
     file: Optional[File] = None
     id: str = ""  # of its leading comment, as REQ-4711: in front of the sentence
     sentence: str = ""
+    meanings: Dict[str, str] = field(default_factory=dict)  # of its names, as its comments say
     lines: Dict[Tuple[str, int], List[str]] = field(default_factory=dict)  # its macros, as they stand with others
     words: FrozenSet[str] = frozenset()  # all names that occur in it, but those of macros
 
@@ -95,12 +97,7 @@ def joined(requirements: Sequence[Requirement], names: Optional[Sequence[str]] =
 
 def heading_of(text: str) -> Tuple[str, str]:
     """The id and the sentence in the leading comment of a file, as in `// REQ-4711: The door stays locked.`"""
-    lines = []
-    for line in text.splitlines():
-        if not line.startswith("//"):
-            break
-        lines.append(line[2:].strip())
-    said = " ".join(lines).strip()
+    said = sentence_of(text)
     match = re.match(r"([A-Za-z][\w.]*[-_.]\d[\w.-]*|[A-Z]+\d[\w.-]*):\s*", said, re.A)
     return (match.group(1), said[match.end():]) if match else ("", said)
 
@@ -109,10 +106,11 @@ def read_requirement(name: str, path: str, expanded: Callable[[str], Tuple[Optio
     """A requirement of the set; `expanded(path)` gives the text in the language and the lines of a fault, one of both None."""
     try:
         text, fault = expanded(path)
-        head = heading_of(read_text(path).encode("latin-1").decode("utf-8", "replace")) if path else ("", "")
+        own = read_text(path) if path else ""
     except OSError as error:
-        text, fault, head = None, [f"{path}: {error.strerror}"], ("", "")
+        text, fault, own = None, [f"{path}: {error.strerror}"], ""
+    head = heading_of(own.encode("latin-1").decode("utf-8", "replace"))
     if text is None:
         return Requirement(name, path, fault=fault, id=head[0], sentence=head[1])
     file = parse(text)
-    return Requirement(name, path, text, fault, file, *head, words=words_of(file))
+    return Requirement(name, path, text, fault, file, *head, glossary(own), words=words_of(file))

@@ -12,4 +12,6 @@ GOAL_NODES = 65_536  # of the goal with each macro in the place of its call
 GOAL_DEPTH = 512
 STATES, DEFAULT_STATES = 32_000, 30_000  # of a step
 NODES = 1_000_000  # of a step; the default, too
+TUPLES, DEFAULT_TUPLES = 100_000_000, 5_000_000  # of states of several files
+JOINT_NAMES = 32  # of several files together
 TRACE_LINES = 1_000_000

@@ -20,6 +20,14 @@ class LogFault(Exception):
     """What is wrong with a log, in one line."""
 
 
+class Unnamed(LogFault):
+    """A log has no column or signal of this name."""
+
+    def __init__(self, message: str, wanted: str) -> None:
+        super().__init__(message)
+        self.wanted = wanted
+
+
 class Chunk(NamedTuple):
     """Some lines of a log."""
 

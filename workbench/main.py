@@ -17,6 +17,7 @@ import faults
 from answers import Malformed
 from commands import Command, command_of, listing, module_of, parser_of
 from language import MOST_BYTES, MOST_TEXT, Fault
+from lines import LogFault
 from program import NO_PROGRAM, Program, Refusal, complain
 from shapes import SourceFault
 from streams import PLAIN, Unwritten, copy_stream, is_stream
@@ -131,9 +132,9 @@ def told(error: BaseException, name: str) -> int:
     if isinstance(error, (MemoryError, RecursionError)):
         complain(f"{name}: {'memory ran out' if isinstance(error, MemoryError) else 'the text nests too deeply'}")
         return NO_MEMORY
-    if isinstance(error, (Malformed, Fault)):
+    if isinstance(error, (Malformed, Fault, LogFault)):
         complain(f"{name}: {error}")
-        return 10 if isinstance(error, Malformed) else 3
+        return 10 if isinstance(error, Malformed) else 3 if isinstance(error, Fault) else 8
     complain(f"{name}: a fault of the workbench itself: {type(error).__name__}: {error} ({place_of(error)})")
     return NO_PROGRAM
 

@@ -7,7 +7,7 @@ from bisect import bisect_right
 from functools import reduce
 from itertools import accumulate
 from operator import getitem, itemgetter, length_hint, mul
-from typing import Any, Callable, Dict, Iterator, List, NamedTuple, Optional, Sequence, Tuple
+from typing import Any, Callable, Dict, Iterator, List, Mapping, NamedTuple, Optional, Sequence, Tuple
 
 from automaton import Automaton
 
@@ -129,6 +129,7 @@ class Heading(NamedTuple):
     id: str
     sentence: str
     variables: Sequence[str]
+    meanings: Mapping[str, str]  # of names, as its file says
 
     @property
     def spoken(self) -> str:

@@ -52,12 +52,6 @@ def spoken(files: Sequence[str]) -> str:
     return files[0] if len(files) == 1 else f"{files[0]} and {len(files) - 1} more"
 
 
-def read_signals(text: str) -> List[str]:
-    """The names of a list of signals: the first word of each line, without comments."""
-    lines = (re.sub(r"(//|#).*", "", line).replace(",", " ").replace(";", " ").replace("=", " ").split() for line in text.splitlines())
-    return [words[0] for words in lines if words]
-
-
 def strange_names(requirements: Sequence[Requirement], signals: Sequence[str]) -> Iterator[str]:
     """A line for each name that is no signal."""
     known = set(signals)

@@ -8,7 +8,7 @@ from expand import Text
 from language import MOST_BYTES, MOST_TEXT, read_text
 from streams import copy_stream, is_stream
 
-WITH_VALUES = ("--states", "--nodes", "--inputs", "--to")
+WITH_VALUES = ("--states", "--nodes", "--inputs", "--to", "--tuples")
 OF_FORMULAS = {command.name for command in PROGRAM if set(LIMITS) <= set(command.options)}
 
 
@@ -18,17 +18,17 @@ class Question:
     def __init__(self, words: Sequence[str], room: str) -> None:
         self.words, self.places = list(words), self.operands(words)
         self.command = words[self.places[0]] if self.places else ""
-        self.shown = [words[place] for place in self.places[1:3]]  # the files as they were named
+        self.shown = [words[place] for place in self.places[1:]]  # the files as they were named
         self.most = MOST_BYTES if self.command in OF_FORMULAS else MOST_TEXT
         self.wholes: Dict[int, Text] = {}  # the files that are sources
-        for number, place in enumerate(self.places[1:3]):
+        for number, place in enumerate(self.places[1:]):
             kept = os.path.join(room, str(number))
             if self.command != "sweep" and (is_stream(words[place]) or os.path.isfile(words[place]) and not words[place].isprintable()):
                 copy_stream(words[place], kept, self.most)
                 self.words[place] = kept
             if self.command in OF_FORMULAS and os.path.isfile(self.words[place]) and os.access(self.words[place], os.R_OK):
                 self.expand(number, place, kept)
-        self.paths = [self.words[place] for place in self.places[1:3]]
+        self.paths = [self.words[place] for place in self.places[1:]]
 
     @staticmethod
     def operands(words: Sequence[str]) -> List[int]:

@@ -10,12 +10,12 @@ from typing import Iterable, List, Set
 from commands import ASK, PROGRAM, Command, Option, options_of
 
 STATUSES = (
-    ("0", "The formula holds of every behaviour; the automaton is shown to be minimal; the first formula implies the second; nothing gets stuck; there is a controller; "
+    ("0", "The formula holds of every behaviour; the automaton is shown to be minimal; the first formula implies the second, or follows from the others; nothing gets stuck; there is a controller; "
           "the text was converted; the trace was read to its end; the drawn formulas are counted."),
-    ("1", "Some behaviour breaks the formula; the automaton is not shown to be minimal; the first formula does not imply the second; some behaviour gets stuck; there is no controller."),
+    ("1", "Some behaviour breaks the formula; the automaton is not shown to be minimal; the first formula does not imply the second, or does not follow from the others; some behaviour gets stuck, or none satisfies all formulas; there is no controller."),
     ("2", "The words are no command, or ask for help."),
-    ("3", "A file holds no formula. The line on standard error names the first fault and its offset in bytes."),
-    ("4", "A step of a formula, or the product of two automata, is over the limits."),
+    ("3", "A file holds no formula, or the files have more than 32 names together. The line on standard error names the first fault and its offset in bytes."),
+    ("4", "A step of a formula, or the product of two automata, is over the limits; or there are more tuples of states than the limit."),
     ("5", "A file could not be opened, or not be read to its end."),
     ("6", "The report could not be written."),
     ("7", "Memory ran out."),

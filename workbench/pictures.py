@@ -1,15 +1,29 @@
 """Behaviours as pictures: waves as SVG, in which long runs are folded, and VCD for wave viewers."""
 import re
-from typing import Iterable, List, Optional, Sequence, Tuple
+from typing import Dict, Iterable, Iterator, List, NamedTuple, Optional, Sequence, Tuple
 
 from streams import plain
 from waves import Column, check_columns, columns
 
-Behaviour = Tuple[str, Sequence[str], Sequence[str], bool]  # a title, the variables, the word, and whether its last instant is marked
-
-INK, GRAY, RED, GREEN, PALE = "#1b3a5c", "#6b7580", "#c0392b", "#2e7d32", "#e6e9ec"
+# The classes of the parts of pictures, each with its properties; a page that holds pictures gives them colours of its own.
+COLOURS = {
+    "paper": {"fill": "#ffffff"}, "text": {"fill": "#222222"}, "title": {"fill": "#1b3a5c"}, "note": {"fill": "#5f6973"},
+    "broken-text": {"fill": "#b03427"}, "line": {"stroke": "#1b3a5c"}, "arrow": {"fill": "#1b3a5c"}, "grid": {"stroke": "#e6e9ec"},
+    "high": {"fill": "#d6e6f5"}, "high-folded": {"fill": "#e9f1f9"}, "mark": {"fill": "#fdecea"},
+    "holds": {"fill": "#e3f1e4", "stroke": "#2e7d32"}, "open": {"fill": "#f4f4f4", "stroke": "#6b7580"},
+    "broken": {"fill": "#f3d9d6", "stroke": "#c0392b"},
+}
 CELL, FOLD, HIGH, GAP, HEAD = 34, 64, 20, 14, 44  # widths of an instant and of a fold, heights of a wave, between two, and of a head
 WIDEST = 1400  # a picture wider than this goes on below
+
+
+class Behaviour(NamedTuple):
+    """A word with what a picture of it says: a title, the variables, and the instant that is marked, if any."""
+
+    title: str
+    variables: Sequence[str]
+    word: Sequence[str]
+    marked: Optional[int] = None
 
 
 def escaped(text: str) -> str:
@@ -21,31 +35,47 @@ def text_width(text: str, size: int) -> float:
     return 0.61 * size * len(text) + 1
 
 
-def words(x: float, y: float, text: str, size: int = 11, color: str = "#222", anchor: str = "start", weight: str = "normal") -> str:
-    return (f'<text x="{x:.1f}" y="{y:.1f}" font-size="{size}" fill="{color}" text-anchor="{anchor}" font-weight="{weight}" '
+def words(x: float, y: float, text: str, size: int = 11, kind: str = "text", anchor: str = "start", weight: str = "normal") -> str:
+    return (f'<text class="{kind}" x="{x:.1f}" y="{y:.1f}" font-size="{size}" text-anchor="{anchor}" font-weight="{weight}" '
             f'xml:space="preserve">{escaped(text)}</text>')
 
 
-def page(width: float, height: float, parts: Iterable[str]) -> str:
+def rules(colours: Dict[str, Dict[str, str]], within: str = "") -> str:
+    """The colours of the classes as rules of CSS, for what is within elements of a kind."""
+    return "".join(f"{within}.{kind}{{{';'.join(f'{name}:{value}' for name, value in those.items())}}}" for kind, those in colours.items())
+
+
+def page(width: float, height: float, parts: Iterable[str], is_styled: bool = True) -> str:
+    """A picture, with its colours unless a page gives them."""
+    style = f"<style>{rules(COLOURS)}</style>\n" if is_styled else ""
     return (f'<svg xmlns="http://www.w3.org/2000/svg" width="{width:.0f}" height="{height:.0f}" viewBox="0 0 {width:.0f} {height:.0f}" '
-            f'font-family="DejaVu Sans Mono, monospace">\n<rect width="100%" height="100%" fill="white"/>\n' + "\n".join(parts) + "\n</svg>\n")
+            f'font-family="DejaVu Sans Mono, monospace">\n{style}<rect class="paper" width="100%" height="100%"/>\n' + "\n".join(parts) + "\n</svg>\n")
 
 
 def waves_svg(behaviours: Iterable[Behaviour]) -> str:
-    """One picture of behaviours below one another; each is a title, the variables, the word, and whether its last instant is marked."""
+    """One picture of behaviours below one another."""
     parts: List[str] = []
     width, y = 0.0, 0
     for title, variables, word, marked in behaviours:
-        parts.append(words(12, y + 20, title, 13, INK, weight="bold"))
+        parts.append(words(12, y + 20, title, 13, "title", weight="bold"))
         width = max(width, text_width(title, 13) + 24)
         y += 28
-        for block in _blocks(variables, word):
-            drawn, right = _block(variables, word, block, y, len(word) - 1 if marked else None)
+        for block in _blocks(variables, word, marked, WIDEST):
+            drawn, right = _block(variables, word, block, y, marked)
             parts += drawn
             width = max(width, right + 16)
             y += HEAD + len(variables) * (HIGH + GAP)
         y += 10
     return page(width, y, parts)
+
+
+def rows_svg(it: Behaviour, widest: int) -> List[str]:
+    """A picture without a title and colours for each row of instants, so that a page breaks between them."""
+    found = []
+    for block in _blocks(it.variables, it.word, it.marked, widest):
+        parts, right = _block(it.variables, it.word, block, 0, it.marked)
+        found.append(page(right + 16, HEAD - 8 + len(it.variables) * (HIGH + GAP), parts, is_styled=False))
+    return found
 
 
 def _width(column: Column) -> int:
@@ -56,14 +86,24 @@ def _margin(variables: Sequence[str]) -> float:
     return 22 + max(text_width(name, 12) for name in (*variables, "instant"))
 
 
-def _blocks(variables: Sequence[str], word: Sequence[str]) -> List[List[Column]]:
+def _columns(word: Sequence[str], marked: Optional[int]) -> Iterator[Column]:
+    """The columns of a word, of which the marked instant is one."""
+    for it in columns(word):
+        if marked is None or not it.first <= marked < it.first + it.count:
+            yield it
+            continue
+        parts = ((it.first, marked), (marked, marked + 1), (marked + 1, it.first + it.count))
+        yield from (Column(first, end - first) for first, end in parts if end > first)
+
+
+def _blocks(variables: Sequence[str], word: Sequence[str], marked: Optional[int], widest: int) -> List[List[Column]]:
     """The columns in rows that are not too wide."""
-    shown = columns(word)
+    shown = list(_columns(word, marked))
     check_columns(word, shown)
     blocks: List[List[Column]] = [[]]
     used = _margin(variables)
     for column in shown:
-        if blocks[-1] and used + _width(column) > WIDEST:
+        if blocks[-1] and used + _width(column) > widest:
             blocks.append([])
             used = _margin(variables)
         blocks[-1].append(column)
@@ -78,13 +118,13 @@ def _block(variables: Sequence[str], word: Sequence[str], block: Sequence[Column
     for column in block:
         edges.append(edges[-1] + _width(column))
     bottom = top + len(variables) * (HIGH + GAP)
-    parts = [words(left - 10, top - 8, "instant", 11, GRAY, "end")]
+    parts = [words(left - 10, top - 8, "instant", 11, "note", "end")]
     for column, begin, end in zip(block, edges, edges[1:]):
-        if marked == column.first:
-            parts.append(f'<rect x="{begin}" y="{top - 2}" width="{end - begin}" height="{bottom - top + 4}" fill="#fdecea"/>')
+        if column.first == marked:
+            parts.append(f'<rect class="mark" x="{begin}" y="{top - 2}" width="{end - begin}" height="{bottom - top + 4}"/>')
         said = str(column.first) if column.count == 1 else f"{column.count} more"
-        parts.append(words((begin + end) / 2, top - 8, said, 11 if column.count == 1 else 10, GRAY, "middle"))
-        parts.append(f'<line x1="{begin}" x2="{begin}" y1="{top - 2}" y2="{bottom}" stroke="{PALE}"/>')
+        parts.append(words((begin + end) / 2, top - 8, said, 11 if column.count == 1 else 10, "note", "middle"))
+        parts.append(f'<line class="grid" x1="{begin}" x2="{begin}" y1="{top - 2}" y2="{bottom}"/>')
     for place, name in enumerate(variables):
         parts += _wave(name, [word[column.first][place] == "1" for column in block], block, edges, top + place * (HIGH + GAP) + GAP / 2)
     return parts, edges[-1]
@@ -97,8 +137,8 @@ def _wave(name: str, levels: Sequence[bool], block: Sequence[Column], edges: Seq
     for high, column, begin, end in zip(levels, block, edges, edges[1:]):
         y = top if high else top + HIGH
         if high:
-            shade = "#d6e6f5" if column.count == 1 else "#e9f1f9"
-            parts.append(f'<rect x="{begin}" y="{top}" width="{end - begin}" height="{HIGH}" fill="{shade}"/>')
+            kind = "high" if column.count == 1 else "high-folded"
+            parts.append(f'<rect class="{kind}" x="{begin}" y="{top}" width="{end - begin}" height="{HIGH}"/>')
         if before is not None and before != y:
             solid += f"M{begin} {before}V{y}"
         if column.count == 1:
@@ -106,9 +146,9 @@ def _wave(name: str, levels: Sequence[bool], block: Sequence[Column], edges: Seq
         else:
             dashed += f"M{begin} {y}H{end}"
         before = y
-    parts.append(f'<path d="{solid}" stroke="{INK}" stroke-width="2" fill="none" stroke-linecap="square"/>')
+    parts.append(f'<path class="line" d="{solid}" stroke-width="2" fill="none" stroke-linecap="square"/>')
     if dashed:
-        parts.append(f'<path d="{dashed}" stroke="{INK}" stroke-width="2" fill="none" stroke-dasharray="3 4"/>')
+        parts.append(f'<path class="line" d="{dashed}" stroke-width="2" fill="none" stroke-dasharray="3 4"/>')
     return parts
 
 

@@ -1,6 +1,7 @@
 """The program, asked questions: it is run on files or on texts, its answers are typed, and what it refuses is an exception."""
 import os
 import re
+import shutil
 import signal
 import subprocess
 import sys
@@ -21,7 +22,7 @@ ROOT = os.path.dirname(os.path.dirname(os.path.abspath(__file__)))
 SCRIPT = os.path.join(ROOT, "dcvalid")
 BUILT = os.path.join(ROOT, "crates", "dcvalid", "out", "dcvalid")
 NO_PROGRAM = 125  # the status where there is no program, or what it did is no answer
-LIMITS = ("size", "depth", "slots", "many", "length", "nest", "outputs", "declarations")  # faults that a larger text has, and no other spelling
+LIMITS = ("size", "depth", "slots", "many", "length", "nest", "outputs", "declarations", "names")  # faults that a larger text has, and no other spelling
 
 
 class Refusal(Exception):
@@ -46,7 +47,7 @@ class Refusal(Exception):
 
 
 class Fault(NamedTuple):
-    """A fault of a file: its kind, its place in bytes, and `first` or `second` where there were two files."""
+    """A fault of a file: its kind, its place in bytes, and `first`, `second` or `file N` where there were several files."""
 
     kind: str
     place: int
@@ -60,6 +61,12 @@ class Answer(NamedTuple):
 
 
 @dataclass(frozen=True)
+class Together:
+    example: Optional[Word]  # a shortest behaviour that satisfies all
+    stuck: Optional[Word]  # a shortest one that kept to all and cannot go on: an empty one where there is no first instant, None where all can
+
+
+@dataclass(frozen=True)
 class Verdict:
     valid: bool
     satisfiable: bool
@@ -69,15 +76,22 @@ class Verdict:
 
 def fault_of(message: str) -> Optional[Fault]:
     """The fault that a line of the program names, or None."""
-    match = re.match(r"fault (\w+) at (\d+)(?: in (first|second))?$", message.strip().split("\n")[0])
+    match = re.match(r"fault (\w+) at (\d+)(?: in (first|second|file \d+))?$", message.strip().split("\n")[0])
     return Fault(match.group(1), int(match.group(2)), match.group(3)) if match else None
 
 
+def place_of_file(message: str) -> int:
+    """Which of the files, counted from 0, a line of the program names; the first where it names none."""
+    match = re.search(r" in (?:second|file (\d+))$", message)
+    return int(match.group(1) or 2) - 1 if match else 0
+
+
 class Program:
-    """`path` names another program; else DCVALID does, else it is the repository's, which is proved and built first where it is not."""
+    """`path` or DCVALID names another program than the repository's, which is built without its proofs where it is not there."""
 
     def __init__(self, path: Optional[str] = None, show: bool = False) -> None:
-        self.path = path or os.environ.get("DCVALID") or None
+        named = path or os.environ.get("DCVALID")
+        self.path = shutil.which(named) or named if named else None
         self.show = show
         self.runs = 0
         self.stopped = False
@@ -218,6 +232,15 @@ class Program:
         """None where what has kept to the formula so far can always go on, else a shortest behaviour that cannot: an empty one where there is no first instant."""
         answer = self.ask("stuck", text, options=options)
         return None if answer.status == 0 else words_of(answer.output)["stuck"]
+
+    def together(self, texts: Sequence[str], options: Sequence[str] = ()) -> Together:
+        """Whether requirements, joined by the names of their variables, can be satisfied together and always go on."""
+        words = words_of(self.ask("together", *texts, options=options).output)
+        return Together(words.get("possible"), words.get("stuck"))
+
+    def follows(self, first: str, others: Sequence[str], options: Sequence[str] = ()) -> Optional[Word]:
+        """None where the first formula follows from the others, else a shortest behaviour that satisfies all of these and not the first."""
+        return words_of(self.ask("follows", first, *others, options=options).output).get("does not follow")
 
     def observer(self, text: str, language: str = "c", options: Sequence[str] = ()) -> str:
         return self.ask(language, text, options=options).output

@@ -1,18 +1,30 @@
-"""What may stand where a fault is, and which one change leaves no fault in the file. Each answer is the program's.
+"""The tokens that may stand where a fault is, and the texts that one change repairs. Each answer is the program's.
 
 `fault syntax at N` names the first token that no file goes on with, so a token may stand at N exactly where the text before N with
 that token after it has no fault there. A change is told only where the program finds no fault in the whole changed file.
 """
 import difflib
+import itertools
 import re
-from typing import Callable, Dict, Iterable, Iterator, List, Sequence, Tuple, Union
+from typing import Callable, Dict, Iterator, List, NamedTuple, Sequence, Tuple, Union
 
 import limits
 from language import RELATIONS, RESERVED, TOKEN, Token, tokens_before
 from program import Fault, Program
 from spots import shown
 
-Change = Tuple[str, str, str]  # a phrase or its pattern, the token, and the text after the change
+
+class Repair(NamedTuple):
+    """A change: its phrase, such as `write && for and`, in which HERE is for the token, and the whole text after it."""
+
+    pattern: str
+    token: str
+    text: str
+
+    @property
+    def phrase(self) -> str:
+        return self.pattern.replace(HERE, self.token)
+
 
 NAME, NUMBER = "a name", "a number"
 MARKS = "; , . ( ) [ ] [[ ]] < > {{ }} ! - + && || => <=> ^ * <> [] = <= >=".split()
@@ -124,22 +136,19 @@ def _few(names: List[str]) -> List[str]:
     return names if len(names) <= 6 else names[:5] + [".."]
 
 
-def changes(program: Program, text: str, fault: Fault, tokens: Sequence[str] = ()) -> List[str]:
-    """Phrases for the one change that leaves no fault, such as `write && for and`; the likeliest shape alone where one is."""
-    for phrase, changed in _rewritten(text, fault.place):
-        if program.fault(changed) is None:
-            return [phrase]
+def repairs(program: Program, text: str, fault: Fault, tokens: Sequence[str] = ()) -> List[Repair]:
+    """The changes after each of which the program finds no fault; the likeliest alone where one is likely."""
     if fault.kind in ("syntax", "byte"):
         likely, others = _token_changes(text, fault.place, tokens)
     else:
         likely, others = _name_changes(text, fault), []
-    for phrase, _, changed in likely:
-        if program.fault(changed) is None:
-            return [phrase]
-    return _joined((phrase, token) for phrase, token, changed in others if program.fault(changed) is None)
+    for repair in itertools.chain(_rewritten(text, fault.place), likely):
+        if program.fault(repair.text) is None:
+            return [repair]
+    return [repair for repair in others if program.fault(repair.text) is None]
 
 
-def _rewritten(text: str, place: int) -> Iterator[Tuple[str, str]]:
+def _rewritten(text: str, place: int) -> Iterator[Repair]:
     """The text with a piece of another notation around the place put right, there alone or everywhere."""
     start = text.rfind("\n", 0, place) + 1
     end = (text + "\n").index("\n", place)
@@ -148,39 +157,39 @@ def _rewritten(text: str, place: int) -> Iterator[Tuple[str, str]]:
             if match.start() <= place - start <= match.end() + 1:
                 written, piece = re.sub(pattern, new, match.group(), 1, re.S | re.A) if callable(new) else match.expand(new), match.group()
                 phrase = f"write {written.strip()} for {shown(piece.strip())}" if written.strip() else f"leave out {shown(piece)}"
-                yield phrase, text[:start + match.start()] + written + text[start + match.end():]
+                yield Repair(phrase, "", text[:start + match.start()] + written + text[start + match.end():])
                 if text.count(piece) > 1:
-                    yield phrase + " everywhere", text.replace(piece, written)
+                    yield Repair(phrase + " everywhere", "", text.replace(piece, written))
 
 
-def _token_changes(text: str, place: int, tokens: Sequence[str]) -> Tuple[List[Change], List[Change]]:
-    """Changes at a token: the likely ones as (phrase, token, text), and all others as (pattern of a phrase, token, text)."""
+def _token_changes(text: str, place: int, tokens: Sequence[str]) -> Tuple[List[Repair], List[Repair]]:
+    """Changes at a token: the likely ones, and all others."""
     match = TOKEN.match(text, place)
     token = match.group() if match and match.group("blank") is None else text[place:place + 1]
     found = re.match(r"[-=<>!&|~^+*/%:]+|[A-Za-z]\w*", text[place:])
     piece = found.group() if found else token
     fit = names_that_fit(text, place, tokens)[:4]
     usual = fit + [mark for mark in tokens if mark not in FILLERS] + ([NUMBER] if NUMBER in tokens else [])
-    likely = [(f"write {new} for {old}", new, text[:place] + new + text[place + len(old):])
+    likely = [Repair(f"write {new} for {old}", new, text[:place] + new + text[place + len(old):])
               for old in dict.fromkeys((piece, token)) if old for new in FOREIGN.get(old, [])]
     behind = tokens_before(text, place)[0]
     where = f"before {token}" if token.strip() else "at the end"
     fresh_line = bool(behind) and "\n" in text[behind[-1].end:place]
     if fresh_line or not token.strip():
-        likely += [(f"put ; {'after ' + behind[-1].text if behind else where}", ";", _put(text, behind, ";"))]
+        likely += [Repair(f"put ; {'after ' + behind[-1].text if behind else where}", ";", _put(text, behind, ";"))]
     others = []
     for new in usual:
         written = " 1 " if new == NUMBER else f" {new} "
-        others.append((f"put {HERE} {where}", new, text[:place] + written + text[place:]))
+        others.append(Repair(f"put {HERE} {where}", new, text[:place] + written + text[place:]))
         for old in dict.fromkeys((token, piece)):
             if old.strip():
-                others.append((f"write {HERE} for {old}", new, text[:place] + written + text[place + len(old):]))
+                others.append(Repair(f"write {HERE} for {old}", new, text[:place] + written + text[place + len(old):]))
     for old in dict.fromkeys((token, piece)):
         if old.strip():
-            others.append((f"leave out {old}", "", text[:place] + " " + text[place + len(old):]))
+            others.append(Repair(f"leave out {old}", "", text[:place] + " " + text[place + len(old):]))
     if behind and behind[-1].text != token:
         last = behind[-1]
-        others.append((f"leave out {last.text} in front of it", "", text[:last.start] + " " + text[place:]))
+        others.append(Repair(f"leave out {last.text} in front of it", "", text[:last.start] + " " + text[place:]))
     return likely, others
 
 
@@ -189,7 +198,7 @@ def _put(text: str, behind: Sequence[Token], new: str) -> str:
     return text[:end] + new + text[end:]
 
 
-def _name_changes(text: str, fault: Fault) -> List[Change]:
+def _name_changes(text: str, fault: Fault) -> List[Repair]:
     """Changes of a name that is unknown, or that stands for another kind of thing than its place asks for."""
     match = re.match(r"[A-Za-z]\w*(\s*\([^()]*\))?", text[fault.place:])
     if match is None:
@@ -200,27 +209,27 @@ def _name_changes(text: str, fault: Fault) -> List[Change]:
     if fault.kind == "unknown":
         known = sorted({token.text for token in tokens_before(text, fault.place)[0] if token.text[0].isalpha()} - set(RESERVED) - {name})
         for new in FOREIGN.get(name, []) + difflib.get_close_matches(name, known, 3, 0.6):
-            found.append((f"write {new} for {name}", new, text[:fault.place] + new + text[fault.place + len(name):]))
+            found.append(Repair(f"write {new} for {name}", new, text[:fault.place] + new + text[fault.place + len(name):]))
     elif fault.kind == "kind":
         call = match.group()
         for opening, closing in (("[[", "]]"), ("<><", ">")):
-            found.append((f"write {opening}{call}{closing} for {call}", "", text[:fault.place] + opening + call + closing + text[end:]))
+            found.append(Repair(f"write {opening}{call}{closing} for {call}", "", text[:fault.place] + opening + call + closing + text[end:]))
         for opening, closing in (("[[", "]]"), ("[", "]"), ("<", ">"), ("{{", "}}")):
             front, rest = text[:fault.place].rstrip(), text[end:].lstrip()
             if front.endswith(opening) and rest.startswith(closing):
                 bare = front[:-len(opening)] + call + rest[len(closing):]
-                found.insert(0, (f"write {call} for {opening}{call}{closing}", "", bare))
+                found.insert(0, Repair(f"write {call} for {opening}{call}{closing}", "", bare))
     return found
 
 
-def _joined(phrases: Iterable[Tuple[str, str]]) -> List[str]:
-    """Phrases of one shape told together: `put ^, && or || before [`."""
+def phrases(found: Sequence[Repair]) -> List[str]:
+    """Repairs in words, those of one shape together: `put ^, && or || before [`."""
     shapes: Dict[str, List[str]] = {}
-    for phrase, token in phrases:
-        shapes.setdefault(phrase, []).append(token)
+    for repair in found:
+        shapes.setdefault(repair.pattern, []).append(repair.token)
     told = []
-    for phrase, tokens in shapes.items():
+    for pattern, tokens in shapes.items():
         tokens = [token for token in dict.fromkeys(tokens) if token]
         spoken_tokens = ", ".join(tokens[:-1]) + (" or " if len(tokens) > 1 else "") + tokens[-1] if tokens else ""
-        told.append(phrase.replace(HERE, spoken_tokens))
+        told.append(pattern.replace(HERE, spoken_tokens))
     return told[:4]

@@ -1,19 +1,21 @@
 """`review`: what a colleague would ask of a requirement, each question with its answer and a behaviour that shows it."""
 import argparse
 import itertools
+from concurrent.futures import ThreadPoolExecutor
 from dataclasses import replace
-from typing import Callable, Dict, FrozenSet, Iterable, Iterator, List, NamedTuple, Optional, Sequence, Set, Tuple, Union
+from typing import Dict, FrozenSet, Iterator, List, NamedTuple, Optional, Sequence, Set, Tuple, Union
 
 import limits
-import vacuity
+import review_report
 from answers import Word
 from expand import Text
+from glossary import glossary
 from language import Tree, to_text
 from names import expand
-from program import Program, Verdict
-from questions import THREADS, Pair, Requirement, differing
+from program import Program
+from questions import THREADS, Difference, Pair, Requirement, differing
 from shapes import MOST
-from waves import in_line, waves
+from vacuity import Idle, idle
 
 MOST_WISHES = 14  # with more of them the limits of an example are lower
 
@@ -60,12 +62,19 @@ def wishes_of(requirement: Requirement) -> Dict[str, str]:
     return wishes
 
 
-def telling(requirement: Requirement) -> Tuple[Optional[Word], Dict[str, List[str]]]:
-    """A shortest behaviour in which as much happens as can together; and what else was wished, by why it does not happen in it."""
+class Example(NamedTuple):
+    """A behaviour in which much happens, where there is one, and what does not happen in it, by why."""
+
+    word: Optional[Word]
+    without: Dict[str, List[str]]
+
+
+def telling(requirement: Requirement) -> Example:
+    """A shortest behaviour in which as much happens as can together."""
     wishes = wishes_of(requirement)
     whole = requirement.check(requirement.and_also(list(wishes)), wide=len(wishes) <= MOST_WISHES)
     if whole and whole.satisfiable:
-        return whole.example, {}
+        return Example(whole.example, {})
     alone = requirement.side_by_side(lambda wish: requirement.check(requirement.and_also([wish])), [(wish,) for wish in wishes])
     got: List[str] = []
     best: Optional[Word] = None
@@ -81,18 +90,7 @@ def telling(requirement: Requirement) -> Tuple[Optional[Word], Dict[str, List[st
             best = answer.example
         else:
             without["apart" if possible else "never"].append(said)
-    return best, without
-
-
-MISSING = {"never": "Where it holds it never happens that", "apart": "Not together with the rest", "over": "Too large to ask for besides"}
-
-
-def example_section(requirement: Requirement) -> List[str]:
-    best, without = telling(requirement)
-    if best is None:
-        return []
-    lines = waves(requirement.variables, best) if requirement.variables else [in_line(best)]
-    return lines + [f"{MISSING[why]}: {'; '.join(said)}." for why, said in without.items() if said]
+    return Example(best, without)
 
 
 # ---- boundaries
@@ -127,35 +125,21 @@ def neighbours(requirement: Requirement) -> Iterator[Neighbour]:
     yield from (Neighbour(*it) for it in requirement.whole.other_numbers())
 
 
-def boundary_section(requirement: Requirement) -> List[str]:
+class Boundary(NamedTuple):
+    """A part, and its neighbours: of each what stands in its place, a behaviour that the part alone takes, and one that the neighbour alone takes."""
+
+    called: str
+    compared: List[Tuple[str, Difference, Difference]]
+
+
+def boundaries(requirement: Requirement) -> List[Boundary]:
+    """Each part that has neighbours, compared with them."""
     cases = list(neighbours(requirement))
     pairs = [pair for it in cases for pair in ((requirement.text, it.text), (it.text, requirement.text))]
     answers = iter(requirement.side_by_side(requirement.difference, pairs))
-    found = [(it, next(answers), next(answers)) for it in cases]
-    lines: List[str] = []
-    for _, those in itertools.groupby(found, lambda case: case[0].place):
-        several = list(those)
-        told = list(boundaries_of([(it.new, here, there) for it, here, there in several], requirement.verdict.valid))
-        if told:
-            lines += [several[0][0].called, *told]
-    return lines
-
-
-def boundaries_of(cases: Iterable[Tuple[str, Union[Word, str, None], Union[Word, str, None]]], valid: bool) -> Iterator[str]:
-    """What is told of the neighbours of one part. That a theorem's neighbour is one too is worth saying where all of them are."""
-    same: List[str] = []
-    others: List[str] = []
-    for new, here, there in cases:
-        if here == there == "same":
-            same.append(new)
-        elif here is None or there is None:
-            others.append(f"  with {new}: over the limits of this question")
-        else:
-            others += [f"  with {new}: good now, bad then: {in_line(here)}"] if here != "same" else []
-            others += [f"  with {new}: bad now, good then: {in_line(there)}"] if there != "same" else []
-    if same and not (valid and others):
-        yield f"  with {' or '.join(same)}: the same meaning"
-    yield from others
+    found = [(it, (it.new, next(answers), next(answers))) for it in cases]
+    grouped = (list(those) for _, those in itertools.groupby(found, lambda case: case[0].place))
+    return [Boundary(those[0][0].called, [compared for _, compared in those]) for those in grouped]
 
 
 # ---- near misses
@@ -196,56 +180,61 @@ def confirmed(requirement: Requirement, found: Union[Pair, str, None]) -> Union[
     return found if answers == [True, False] else "over"
 
 
-def near_section(requirement: Requirement) -> List[str]:
-    goal = expand(requirement.file)
+class Miss(NamedTuple):
+    """A value that a variable has to have: a good behaviour and the bad one with the other value at one instant, or `over`."""
+
+    variable: str
+    high: bool
+    pair: Union[Pair, str]
+
+    @property
+    def instant(self) -> int:
+        return next(instant for instant, letters in enumerate(zip(*self.pair)) if letters[0] != letters[1])
+
+    @property
+    def said(self) -> str:
+        return f"{self.variable} has to be {'true' if self.high else 'false'}"
+
+
+def near_misses(requirement: Requirement) -> Optional[List[Miss]]:
+    """What each variable decides; None where there is no room for a copy of a variable."""
     if len(requirement.variables) == limits.VARIABLES:
-        return [f"(Not asked: with {limits.VARIABLES} variables none can be copied.)"]
+        return None
+    goal = expand(requirement.file)
     cases = [(variable, high) for variable in requirement.variables for high in (True, False)]
     answers = requirement.side_by_side(lambda variable, high: near_miss(requirement, goal, variable, high), cases)
-    lines = []
-    for (variable, high), pair in zip(cases, answers):
-        what = f"{variable} has to be {'true' if high else 'false'}"
-        if isinstance(pair, str):
-            lines.append(f"{what}: over the limits of this question")
-        elif pair:
-            at = next(instant for instant, letters in enumerate(zip(*pair)) if letters[0] != letters[1])
-            lines.append(f"{what} at instant {at}:  good {in_line(pair[0])}   bad {in_line(pair[1])}")
-    return lines
+    return [Miss(*case, pair) for case, pair in zip(cases, answers) if pair is not None]
 
 
 # ---- the review
 
 
-def verdict_section(verdict: Verdict) -> List[str]:
-    if not verdict.satisfiable:
-        return ["No behaviour satisfies it."]
-    return ["Every behaviour satisfies it: it asks for nothing, or it is a theorem."] if verdict.valid else []
+class Review(NamedTuple):
+    """All answers about a requirement."""
+
+    requirement: Requirement
+    example: Example
+    boundaries: List[Boundary]
+    misses: Optional[List[Miss]]
+    idle: List[Idle]
 
 
-SECTIONS: Sequence[Tuple[str, Callable[[Requirement], List[str]]]] = (
-    ("Does it say anything at all?", lambda requirement: verdict_section(requirement.verdict)),
-    ("What does it look like when it holds? A shortest behaviour in which as much as can happens:", example_section),
-    ("Is each number and bracket the one that is meant? Shortest behaviours that tell it from its neighbour:", boundary_section),
-    ("What does each variable decide? A good and a bad behaviour that differ in one value:", near_section),
-    ("Does each part matter?", vacuity.section),
-)
+def reviewed(requirement: Requirement, pool: ThreadPoolExecutor) -> Review:
+    """The answers, asked side by side; the pool is another one than that of the requirement, whose answers are waited for."""
+    example, found = pool.submit(telling, requirement), pool.submit(boundaries, requirement)
+    misses, parts = pool.submit(near_misses, requirement), pool.submit(idle, requirement)
+    return Review(requirement, example.result(), found.result(), misses.result(), parts.result())
 
 
 def add_arguments(parser: argparse.ArgumentParser) -> None:
     parser.add_argument("file", metavar="FILE")
+    parser.add_argument("--signals", metavar="LIST", help="a file of signals, whose comments say what the variables mean")
 
 
 def run(options: argparse.Namespace, program: Program) -> int:
     whole = Text(options.file, options.shown)
-    # The questions of the sections are asked side by side; the sections wait for theirs.
+    found = glossary(whole.source.text, options.signals)
     with program.side_by_side(THREADS) as questions, program.side_by_side(THREADS) as outer:
-        requirement = Requirement(program, whole, questions)
-        names = " ".join(requirement.variables)
-        print(f"{options.shown}: " + (f"an instant is written as the digits of {names}" if names else "no variables"))
-        sections = [(title, outer.submit(lines, requirement)) for title, lines in SECTIONS]
-        answers = [(title, section.result()) for title, section in sections]
-    for title, lines in answers:
-        if lines:
-            print(f"\n{title}")
-            print("\n".join("  " + line if line else "" for line in lines))
+        answers = reviewed(Requirement(program, whole, questions), outer)
+    print("\n".join([*review_report.lines(answers, options.shown), *review_report.names(answers.requirement.variables, found)]))
     return 0

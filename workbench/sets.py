@@ -12,11 +12,11 @@ import expand
 from asked import Finding, Members, Questions, Unanswered
 from joined import MOST_NAMES, Requirement, named, read_requirement
 from kept import Kept, Planned
-from language import MOST_TEXT, read_text
-from nearby import near_names, read_signals, strange_names
+from nearby import near_names, strange_names
 from program import Program
 from progress import Progress
 from sets_report import print_report, sentence, write_junit
+from signals import Signal, listed
 from sources import load
 
 Got = TypeVar("Got")
@@ -40,6 +40,7 @@ class Answers:
     late: Set[Requirement] = field(default_factory=set)  # those that are judged at the end alone
     near: List[str] = field(default_factory=list)  # names that are near each other
     strange: List[str] = field(default_factory=list)  # names that are no signals
+    signals: Sequence[Signal] = ()  # those of the list
 
     @property
     def is_well(self) -> bool:
@@ -249,7 +250,7 @@ def add_arguments(parser: argparse.ArgumentParser) -> None:
     parser.epilog = "Status 1 where something is not well. The files may have constants, use and numbers as arguments, as expand takes them."
     parser.add_argument("files", metavar="FILE", nargs="+")
     parser.add_argument("--inputs", metavar="NAMES", default="", help="the inputs, as a,b: asks too whether a controller of the other names exists")
-    parser.add_argument("--signals", metavar="LIST", help="the names that there are, one in each line: other names are reported")
+    parser.add_argument("--signals", metavar="LIST", help="the signals that there are, a line for each, as watch reads them: other names are reported")
     parser.add_argument("--jobs", metavar="N", type=int, default=os.cpu_count() or 2, help="how many questions are asked at a time")
     parser.add_argument("--all", action="store_true", help="lists each question that was not asked, too")
     parser.add_argument("--cache", metavar="FOLDER", help="keeps answers there, and asks no question again of the same texts and program")
@@ -258,16 +259,21 @@ def add_arguments(parser: argparse.ArgumentParser) -> None:
     parser.add_argument("--junit", metavar="OUT", help="writes what is told as a report of tests in JUnit's XML")
 
 
+def unknown_inputs(inputs: Sequence[str], requirements: Sequence[Requirement]) -> List[str]:
+    return [name for name in inputs if not any(name in it.variables for it in requirements)]
+
+
 def run(options: argparse.Namespace, program: Program) -> int:
     start = time.time()
+    program.command()  # built first, since without a program no fault is found
     requirements = [read_requirement(name, path, lambda path: expand.read(lambda: load(path, path), program)) for name, path in named(options.files)]
     inputs = tuple(name for name in options.inputs.split(",") if name)
-    strange = [name for name in inputs if not any(name in it.variables for it in requirements)]
+    strange = unknown_inputs(inputs, requirements)
     folders = [folder for folder in (options.cache, options.plan, options.take) if folder]
     if strange or len(folders) > 1:
         print(f"ask set: no file has a variable {strange[0]}" if strange else "ask set: --cache, --plan and --take are one without the others", file=sys.stderr)
         return 2
-    signals = read_signals(read_text(options.signals, MOST_TEXT)) if options.signals else None
+    signals = listed(options.signals)
     if folders:
         program.kept = Kept(folders[0], program.command()) if options.cache else Planned(folders[0], program.command(), asks=not options.plan)
     with program.side_by_side(max(1, options.jobs)) as pool:
@@ -277,7 +283,8 @@ def run(options: argparse.Namespace, program: Program) -> int:
               f"{program.kept.found} are answered")
         return 0
     answers.near = list(near_names(requirements))
-    answers.strange = list(strange_names(requirements, signals)) if signals is not None else []
+    answers.signals = signals
+    answers.strange = list(strange_names(requirements, [it.name for it in signals])) if options.signals else []
     print_report(answers, program, time.time() - start, options.all)
     if options.junit:
         write_junit(answers, options.junit)

@@ -7,7 +7,7 @@ from typing import TYPE_CHECKING, Dict, FrozenSet, Iterable, Iterator, List, Opt
 from asked import Finding
 from joined import Requirement, names_of
 from program import Program
-from streams import Unwritten, plain
+from streams import plain, write_text
 from waves import in_line, terminal_width
 
 if TYPE_CHECKING:
@@ -130,6 +130,24 @@ def unasked_lines(answers: "Answers", every: bool) -> List[str]:
     return [f"{spoken(group)} together with {spoken(others, 'or')}: {why}" for (group, why), others in groups.items()] + list(dict.fromkeys(lines))
 
 
+def meanings_of(answers: "Answers", name: str) -> str:
+    """What the files that have a name say it means, else what the list of signals says."""
+    found: Dict[str, List[str]] = {}
+    for it in answers.requirements:
+        if name in it.variables and name in it.meanings:
+            found.setdefault(it.meanings[name], []).append(it.name)
+    listed = next((it.meaning for it in answers.signals if it.name == name), "")
+    return "; ".join(f"{meaning} ({', '.join(files)})" for meaning, files in found.items()) if len(found) > 1 else next(iter(found), listed)
+
+
+def glossary_lines(answers: "Answers", every: bool) -> List[str]:
+    """The meanings of all names; where they are many only of those that are in a finding."""
+    blamed = [it for finding in answers.findings for it in finding.members]
+    names = names_of(answers.requirements)
+    shown = names if every or len(names) <= FEW else names_of(blamed)
+    return [f"{name}: {meaning}" for name in shown for meaning in [meanings_of(answers, name)] if meaning]
+
+
 def print_report(answers: "Answers", program: Program, seconds: float, every: bool) -> None:
     lines = table(answers)
     for it in answers.requirements:
@@ -140,6 +158,7 @@ def print_report(answers: "Answers", program: Program, seconds: float, every: bo
     lines += section("What follows from others:", what_follows(answers))
     lines += section("Well together:", grouped(answers))
     lines += section("Not asked:", unasked_lines(answers, every))
+    lines += section("Names:", glossary_lines(answers, every))
     kept = f", {program.kept.found} answers were there" if program.kept else ""
     lines += ["", f"{len(answers.requirements)} requirements, {len(answers.pairs)} pairs that share names; {program.runs} questions in {seconds:.1f} s{kept}: "
               + ("all is well" if answers.is_well else "not all is well")]
@@ -176,7 +195,7 @@ def cases(answers: "Answers") -> Iterator[Case]:
 
 
 def write_junit(answers: "Answers", path: str) -> None:
-    """The same as a report of tests; a requirement's sentence is what its case printed."""
+    """The same as a report of tests; a requirement's sentence and its names are what its case printed."""
     found = list(cases(answers))
     suite = xml.Element("testsuite", name="ask set", tests=str(len(found)), failures=str(sum(failure is not None for *_, failure, _ in found)),
                         skipped=str(sum(failure is None and why is not None for *_, failure, why in found)))
@@ -186,9 +205,7 @@ def write_junit(answers: "Answers", path: str) -> None:
             xml.SubElement(case, "failure", message=plain(failure.split("\n")[0])).text = plain(failure)
         elif why is not None:
             xml.SubElement(case, "skipped", message=plain(why))
-        if it is not None and it.sentence:
-            xml.SubElement(case, "system-out").text = plain(it.sentence)
-    try:
-        xml.ElementTree(suite).write(path, encoding="utf-8", xml_declaration=True)
-    except OSError as error:
-        raise Unwritten(f"{path} could not be written: {error.strerror}") from None
+        said = [it.sentence, *(f"{name}: {meaning}" for name in it.variables for meaning in [meanings_of(answers, name)] if meaning)] if it else []
+        if any(said):
+            xml.SubElement(case, "system-out").text = plain("\n".join(filter(None, said)))
+    write_text(path, xml.tostring(suite, encoding="utf-8", xml_declaration=True).decode())

@@ -5,7 +5,9 @@ from decimal import Context, Decimal
 from typing import Any, Callable, Dict, List, NamedTuple, Optional, Tuple
 
 from cells import Cell, Row, number_of, text_of, truth_of
+from language import MOST_TEXT, read_text
 from lines import LogFault
+from spots import utf8
 
 TOKEN = re.compile(r'\s*(?:(?P<number>\d+(?:\.\d+)?(?:[eE][+-]?\d{1,3})?)|(?P<name>[^\W\d]\w*(?:\.[^\W\d]\w*)*)|"(?P<quoted>[^"]*)"'
                    r"|(?P<mark>&&|\|\||[<>=!]=|\.\.|[-+*()!<>,=])|(?P<end>$))")
@@ -29,6 +31,10 @@ class Signal(NamedTuple):
     @property
     def spoken(self) -> str:
         return " ".join([self.name] + ["= " + self.expression] * bool(self.expression) + ["// " + self.meaning] * bool(self.meaning))
+
+    def has(self, column: str) -> bool:
+        """Whether the expression names this column."""
+        return any(column in match.group("name", "quoted") for match in TOKEN.finditer(self.expression))
 
 
 class Part(NamedTuple):
@@ -218,3 +224,8 @@ def read_signals(text: str, shown: str) -> List[Signal]:
     """The signals of a file."""
     found = [read_line(line, f"{shown}:{number}") for number, line in enumerate(text.split("\n"), 1)]
     return [it for it in found if it is not None]
+
+
+def listed(path: Optional[str]) -> List[Signal]:
+    """The signals of the file that is named, if one is."""
+    return read_signals(utf8(read_text(path, MOST_TEXT)), path) if path else []

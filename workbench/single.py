@@ -6,10 +6,11 @@ from typing import Deque, Dict, Iterator, List, MutableSequence, Sequence, Tuple
 import observers
 from confirmed import Unconfirmed
 from lines import LogFault
-from logs import Row
-from monitors import BEFORE, Run
+from logs import Row, Source, letters_of
+from monitors import BEFORE, Heading, Run
 from program import Program
-from watch_report import MOST, shown_rows
+from signals import Signal
+from watch_report import MOST, explained, shown_rows
 from waves import instants, runs
 
 BEHIND = 2  # runs of equal rows that are shown after the first violation
@@ -87,28 +88,29 @@ def pieces(rows: Iterator[Row], size: int) -> Iterator[Tuple[List[Row], bool]]:
         part = following
 
 
-def said(variables: Sequence[str], watch: Watch) -> Iterator[str]:
+def said(heading: Heading, signals: Sequence[Signal], watch: Watch) -> Iterator[str]:
     if not watch.broken:
         yield f"holds at each of {instants(watch.count)}"
         return
     at, label, _ = watch.violations[0]
     more = "" if watch.rearm else f"; of {instants(watch.count)} it is broken at {watch.broken}, the last of them {watch.last}"
     yield f"broken at instant {at}, row {label}{more}"
-    yield from shown_rows(variables, at, label, list(watch.before), watch.after[:BEHIND])
+    yield from shown_rows(heading.variables, at, label, list(watch.before), watch.after[:BEHIND])
+    yield from explained(heading, signals)
     if watch.rearm:
         yield f"{watch.broken} violation{'s' * (watch.broken > 1)} in {instants(watch.count)}; after each the requirement begins anew:"
         for at, label, letter in watch.violations:
-            yield f"  instant {at}, row {label}: " + " ".join(f"{name}={digit}" for name, digit in zip(variables, letter))
+            yield f"  instant {at}, row {label}: " + " ".join(f"{name}={digit}" for name, digit in zip(heading.variables, letter))
         if watch.broken > len(watch.violations):
             yield f"  and {watch.broken - len(watch.violations)} more"
 
 
-def judge(program: Program, text: str, variables: Sequence[str], rows: Iterator[Row], rearm: bool, piece: int, shown: str) -> int:
-    """Replays the rows and prints the report; 1 where the requirement is broken."""
+def judge(program: Program, heading: Heading, text: str, source: Source, rearm: bool, piece: int) -> int:
+    """Replays the rows of a log and prints the report; 1 where the requirement is broken."""
     watch = Watch(program, text, rearm)
-    for part, last in pieces(rows, piece):
+    for part, last in pieces(letters_of(source, heading.variables), piece):
         watch.piece(part, last)
     if watch.count == 0:
-        raise LogFault(f"{shown}: there is no instant")
-    print("\n".join(said(variables, watch)))
+        raise LogFault(f"{source.shown}: there is no instant")
+    print("\n".join(said(heading, source.settings.signals, watch)))
     return 1 if watch.broken else 0

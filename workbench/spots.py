@@ -62,7 +62,15 @@ class Spot:
         return [f"{self.row:5} | {line}", f"      | {blank}^"]
 
 
+def utf8(text: str) -> str:
+    """A text of bytes as characters."""
+    return text.encode("latin-1").decode("utf-8", "replace")
+
+
+def printable(text: str) -> str:
+    return "".join(it if it == "\t" or it.isprintable() else "?" for it in text)
+
+
 def shown(text: str) -> str:
     """A text of bytes as characters; what no terminal shows is a question mark."""
-    characters = text.encode("latin-1").decode("utf-8", "replace")
-    return "".join(it if it == "\t" or it.isprintable() else "?" for it in characters)
+    return printable(utf8(text))

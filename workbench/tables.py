@@ -3,7 +3,7 @@ import argparse
 import os
 import re
 from dataclasses import dataclass
-from typing import Dict, List, Sequence, Tuple
+from typing import Dict, Iterable, List, Sequence, Tuple
 
 from automaton import Automaton, Choice, Diagram
 from expand import Text
@@ -53,8 +53,13 @@ class Tables:
 
 def nodes_of(automaton: Automaton) -> List[Choice]:
     """The nodes of all rows, each once: those of the last variable first."""
+    return nodes_below(automaton.rows)
+
+
+def nodes_below(rows: Iterable[Diagram]) -> List[Choice]:
+    """The nodes of diagrams, each once: those of the last variable first."""
     found: Dict[int, Choice] = {}
-    todo = automaton.rows[::-1]
+    todo = [*rows][::-1]
     while todo:
         node = todo.pop()
         if isinstance(node, Choice) and id(node) not in found:

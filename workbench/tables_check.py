@@ -167,6 +167,18 @@ def drawn_behaviours(automaton: Automaton, count: int = DRAWN, seed: int = 1) ->
         yield word
 
 
+def drawn_within(automaton: Automaton) -> List[List[str]]:
+    """As many drawn behaviours as a replay of the observer takes."""
+    words: List[List[str]] = []
+    instants = 0
+    for word in drawn_behaviours(automaton):
+        instants += len(word)
+        if words and instants * automaton.states > REPLAYED:
+            break
+        words.append(word)
+    return words
+
+
 def answers_of(binary: Optional[str], tables: Tables, words: Sequence[Sequence[str]]) -> List[str]:
     """What the compiled code (or, where there is none, this script by the numbers) answers at each instant of each word."""
     if binary is None:
@@ -189,23 +201,18 @@ def by_numbers(tables: Tables, word: Sequence[str]) -> str:
 
 def run_drawn(program: Program, text: str, binary: Optional[str], tables: Tables, automaton: Automaton) -> Tuple[int, int]:
     """The drawn behaviours through the tables and through the program's own observer; how many there were, and their instants."""
-    words: List[List[str]] = []
-    instants = 0
-    for word in drawn_behaviours(automaton):
-        instants += len(word)
-        if words and instants * automaton.states > REPLAYED:
-            break
-        words.append(word)
-    for word, found, wanted in zip(words, answers_of(binary, tables, words), replayed(program, program.observer(text), tables, words)):
+    words = drawn_within(automaton)
+    wanted_of = replayed(program, program.observer(text), tables.variables, words)
+    for word, found, wanted in zip(words, answers_of(binary, tables, words), wanted_of):
         if found != wanted:
             at = next((i for i, pair in enumerate(zip(found, wanted)) if pair[0] != pair[1]), min(len(found), len(wanted)))
             raise Wrong(f"instant {at} of {in_line(word[:at + 1])}: the tables answer {found[at:at + 1]}, replay-c {wanted[at:at + 1]}")
     return len(words), sum(map(len, words))
 
 
-def replayed(program: Program, observer: str, tables: Tables, words: Sequence[Sequence[str]]) -> List[str]:
+def replayed(program: Program, observer: str, variables: int, words: Sequence[Sequence[str]]) -> List[str]:
     """What replay-c answers: in one run, by an input that restarts the observer, or with 16 variables, which leave no room for one, in a run each."""
-    if tables.variables < limits.VARIABLES:
+    if variables < limits.VARIABLES:
         trace = [("0" if instant else "1") + letter.strip("-") for word in words for instant, letter in enumerate(word)]
         answers = iter(program.replay(observers.restarted(observer), trace))
         return ["".join(str(int(next(answers))) for _ in word) for word in words]

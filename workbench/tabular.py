@@ -4,7 +4,7 @@ import re
 from difflib import get_close_matches
 from typing import Any, Iterator, List, NamedTuple, Optional, Sequence, Tuple
 
-from lines import MOST_LINE, Chunk, LogFault, chunks, name_of
+from lines import MOST_LINE, Chunk, LogFault, Unnamed, chunks, name_of
 
 MARKS = (",", ";", "\t", "|")
 MOST_QUOTED = 1 << 20  # characters of a row that goes over several lines
@@ -209,4 +209,4 @@ def column_of(shown: str, names: Sequence[str], wanted: str, variable: str) -> i
         raise LogFault(f"{shown}: {names.count(wanted)} columns are named {wanted}")
     near = get_close_matches(wanted, names, 1, 0.8)
     hint = (f"; {near[0]} is near" if near else "") + ("" if wanted != variable else f"; --column {variable}=NAME names another one, and --let makes one")
-    raise LogFault(f"{shown}: no column is named {wanted}; there are: {', '.join(names) or 'none'}{hint}")
+    raise Unnamed(f"{shown}: no column is named {wanted}; there are: {', '.join(names) or 'none'}{hint}", wanted)

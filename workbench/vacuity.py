@@ -1,5 +1,5 @@
 """The last question of `review`: parts of a requirement that do not matter, variables that decide nothing, values that never happen."""
-from typing import Dict, FrozenSet, Iterator, List, Optional, Tuple
+from typing import Dict, FrozenSet, Iterator, List, NamedTuple, Optional, Tuple
 
 import limits
 from language import File, Tree, goal_text, to_text
@@ -7,6 +7,20 @@ from names import expand
 from questions import Occurrence, Requirement
 
 CONSTANTS = ("true", "false", "p_true", "p_false")
+
+
+class Idle(NamedTuple):
+    """A part that does not matter, in its line: a variable that decides nothing, a part in whose place a constant leaves the meaning
+    as it is (`value`, with a reason), or one that is constant by itself (`always true` or `never true`)."""
+
+    kind: str  # variable, needless or constant
+    part: str
+    line: str = ""
+    value: str = ""
+    why: str = ""
+    states: int = 0  # of a needless part the most states of a step without it, where these are more than with it
+    most: int = 0  # the most states of a step with it
+
 
 # What it says that a part may be a constant, by what stands around it, the part's place there, and the constant.
 ROLES = {
@@ -86,14 +100,11 @@ def needless(requirement: Requirement) -> Iterator[Tuple[Occurrence, str, int]]:
         yield occurrence, constant, answer[1]
 
 
-def needless_lines(requirement: Requirement) -> Iterator[str]:
+def needless_parts(requirement: Requirement) -> Iterator[Idle]:
     most = max(requirement.steps, default=0)
     for occurrence, constant, states in needless(requirement):
-        tree, why = occurrence.tree, role(occurrence, constant)
-        line = f"{requirement.line(tree)}: {requirement.part(tree)} may be {constant} and the meaning is the same" + (f": {why}" if why else "")
-        if states > most:
-            line += f" (it is there for the budget: a step has {states} states without it, and {most} with it)"
-        yield line
+        part, line = requirement.part(occurrence.tree), requirement.line(occurrence.tree)
+        yield Idle("needless", part, line, constant, role(occurrence, constant), states if states > most else 0, most)
 
 
 # ---- parts that are constant by themselves
@@ -112,7 +123,7 @@ def by_itself(requirement: Requirement, tree: Tree) -> Optional[str]:
     return "never true" if not can.satisfiable else "always true" if must.valid else None
 
 
-def constant_lines(requirement: Requirement) -> Iterator[str]:
+def constant_parts(requirement: Requirement) -> Iterator[Idle]:
     """The innermost parts of the goal, macros in place, that are constant; of a theorem those that are never true."""
     goal = expand(requirement.file)
     parts = {to_text(tree): tree for tree in reversed(list(goal.walk())) if tree is not goal}
@@ -121,14 +132,15 @@ def constant_lines(requirement: Requirement) -> Iterator[str]:
     for text, tree in reversed(list(parts.items())):
         inside = [part for part in list(tree.walk())[1:] if requirement.is_own(part)]
         if found[text] in told and requirement.is_own(tree) and not any(found.get(to_text(part)) for part in inside):
-            yield f"{requirement.line(tree)}: {text if len(text) <= 60 else text[:57] + ' ..'} is {found[text]}, whatever its variables do"
+            yield Idle("constant", text if len(text) <= 60 else text[:57] + " ..", requirement.line(tree), str(found[text]))
 
 
-def section(requirement: Requirement) -> List[str]:
+def idle(requirement: Requirement) -> List[Idle]:
+    """All that does not matter."""
     verdict = requirement.verdict
     if not verdict.satisfiable:
-        return list(constant_lines(requirement))
-    lines = list(constant_lines(requirement)) if verdict.valid else []
+        return list(constant_parts(requirement))
+    found = list(constant_parts(requirement)) if verdict.valid else []
     if not verdict.valid:
-        lines += [f"{name} decides nothing" for name in requirement.variables if f" {name} ? " not in requirement.meaning]
-    return lines + list(needless_lines(requirement))
+        found += [Idle("variable", name) for name in requirement.variables if f" {name} ? " not in requirement.meaning]
+    return found + list(needless_parts(requirement))

@@ -9,15 +9,16 @@ import limits
 import single
 from confirmed import Confirmation, Unconfirmed
 from expand import Text
+from glossary import glossary
 from joined import heading_of, named
 from judged import Judge
-from language import MOST_TEXT, natural, parse, read_text
-from lines import LogFault
+from language import natural, parse
+from lines import LogFault, Unnamed
 from logs import Settings, Source, letters_of
 from monitors import Heading, Monitor
 from program import Program, complain
 from shapes import is_number
-from signals import Signal, read_line, read_signals
+from signals import Signal, listed, read_line
 from times import UNITS, duration
 from watch_report import Lines, Text as TextReport, write_junit
 from waves import instants
@@ -132,9 +133,14 @@ def run(options: argparse.Namespace, program: Program) -> int:
         return 2
     log = options.more[0] if options.log is None else options.log
     paths = [options.shown] + (options.more if options.log is not None else [])
+    found: List[Tuple[Heading, str]] = []
     try:
-        found = [requirement(options, program, name, path) for name, path in named(paths)]
+        found += [requirement(options, program, name, path) for name, path in named(paths)]
         return judged(options, program, log, found)
+    except Unnamed as fault:
+        sys.stdout.flush()
+        complain(f"ask watch: {fault}{origin(fault.wanted, options, [heading for heading, _ in found])}")
+        return 8
     except LogFault as fault:
         sys.stdout.flush()
         complain(f"ask watch: {fault}")
@@ -154,7 +160,7 @@ def requirement(options: argparse.Namespace, program: Program, name: str, path: 
     if program.fault(text):
         program.ask("check", text)
     head = heading_of(source.source.text.encode("latin-1").decode("utf-8", "replace"))
-    return Heading(name, path, *head, parse(text).variables), text
+    return Heading(name, path, *head, parse(text).variables, glossary(source.source.text)), text
 
 
 def settings_of(options: argparse.Namespace, log: str, variables: Sequence[str]) -> Settings:
@@ -164,9 +170,28 @@ def settings_of(options: argparse.Namespace, log: str, variables: Sequence[str])
     strange = [it.name for it in options.let if it.name not in variables]
     if strange:
         raise LogFault(f"--let: {strange[0]} is no variable of a requirement; these are: {', '.join(variables) or 'none'}")
-    listed = read_signals(read_text(options.signals, MOST_TEXT).encode("latin-1").decode("utf-8", "replace"), options.signals) if options.signals else []
-    return Settings(log, options.kind, dict(options.column), [*listed, *options.let], options.hold, options.separator, options.follow, options.clock,
+    return Settings(log, options.kind, dict(options.column), signals_of(options), options.hold, options.separator, options.follow, options.clock,
                     options.period, options.time, options.unit, options.gap, options.anew, options.any)
+
+
+def signals_of(options: argparse.Namespace) -> List[Signal]:
+    """The signals of the file, and those of --let."""
+    return [*listed(options.signals), *options.let]
+
+
+def origin(wanted: str, options: argparse.Namespace, headings: Sequence[Heading]) -> str:
+    """Where a name comes from that the log has not: from a signal, or from requirements, and whether the file of signals has it."""
+    name = next((variable for variable, column in options.column if column == wanted), wanted)
+    signals = signals_of(options)
+    users = [it for it in signals if it.has(wanted)]
+    files = [it.path for it in headings if name in it.variables]
+    if users and not any(it.expression and it.name == name for it in users):
+        return f"; {users[0].name} is made of it ({users[0].where})"
+    if not files:
+        return ""
+    place = next((it.where for it in signals if it.name == name), "")
+    more = f" and {len(files) - 1} more" if len(files) > 1 else ""
+    return f"; {name} is a variable of {files[0]}{more}" + (f"; {place} lists it as a column" if place else f"; {options.signals} does not list it" if options.signals else "")
 
 
 def judged(options: argparse.Namespace, program: Program, log: str, found: List[Tuple[Heading, str]]) -> int:
@@ -177,7 +202,7 @@ def judged(options: argparse.Namespace, program: Program, log: str, found: List[
             print(letter)
         return 0
     if options.log is None:
-        status = single.judge(program, found[0][1], variables, letters_of(source, variables), options.rearm, min(options.piece or PIECE, MOST_PIECE), log)
+        status = single.judge(program, *found[0], source, options.rearm, min(options.piece or PIECE, MOST_PIECE))
         tell_steps(source)
         return status
     monitors = [Monitor(heading, text, program.automaton(text), [source.places[name] for name in heading.variables], options.rearm)
@@ -192,6 +217,8 @@ def watched(options: argparse.Namespace, program: Program, source: Source, monit
     judge = Judge(monitors, report, Confirmation(program, options.confirm), min(options.piece or MOST_PIECE, MOST_PIECE), options.until_broken)
     try:
         judge.run(source.shown, source.blocks())
+    except Unnamed:
+        raise
     except LogFault as fault:
         before = f"; {instants(judge.count)} before it {'is' if judge.count == 1 else 'are'} judged" if judge.count else ""
         raise LogFault(f"{fault}{before}") from None

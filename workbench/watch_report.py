@@ -5,7 +5,7 @@ from typing import Dict, Iterator, List, Sequence, Tuple
 
 from monitors import Heading, Monitor, Run
 from signals import Signal
-from streams import Unwritten, plain
+from streams import plain, write_text
 from waves import instants
 
 MOST = 100  # breaches of a requirement that are told in text
@@ -37,12 +37,22 @@ def result(monitor: Monitor, count: int) -> str:
     return f"broken at instant {instant}, row {label}{more}" + (f"; not confirmed: {monitor.unconfirmed}" if monitor.unconfirmed else "")
 
 
+def explained(heading: Heading, signals: Sequence[Signal]) -> Iterator[str]:
+    """The glossary: a line for each name of a requirement that its file says the meaning of, or that is a signal."""
+    listed = {it.name: it for it in signals}
+    for name in heading.variables:
+        it = listed.get(name, Signal(name, "", "", ""))
+        it = it._replace(meaning=heading.meanings.get(name, it.meaning))
+        if it.expression or it.meaning:
+            yield f"      {it.spoken}"
+
+
 class Text:
     """The report as text."""
 
     def __init__(self, signals: Sequence[Signal]) -> None:
         self.told: Dict[Monitor, int] = {}
-        self.signals = signals  # the glossary: a line for each that the requirement of a breach has
+        self.signals = signals
 
     def wants(self, monitor: Monitor) -> bool:
         return self.told.get(monitor, 0) < MOST
@@ -54,7 +64,7 @@ class Text:
         lines = [f"{monitor.heading.spoken}: broken at instant {instant}, row {label}"]
         if runs:
             lines += shown_rows(monitor.heading.variables, instant, label, runs, ())
-            lines += [f"      {it.spoken}" for it in self.signals if it.name in monitor.heading.variables]
+            lines += explained(monitor.heading, self.signals)
         if not self.wants(monitor):
             lines.append(f"{monitor.heading.spoken}: that were {MOST} breaches; more are counted and not listed")
         print("\n".join(lines), flush=True)
@@ -108,7 +118,4 @@ def write_junit(monitors: Sequence[Monitor], count: int, log: str, path: str) ->
             xml.SubElement(case, "failure", message=plain(said)).text = plain(said)
         if heading.sentence:
             xml.SubElement(case, "system-out").text = plain(heading.sentence)
-    try:
-        xml.ElementTree(suite).write(path, encoding="utf-8", xml_declaration=True)
-    except OSError as error:
-        raise Unwritten(f"{path} could not be written: {error.strerror}") from None
+    write_text(path, xml.tostring(suite, encoding="utf-8", xml_declaration=True).decode())

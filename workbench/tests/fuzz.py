@@ -3,9 +3,11 @@
 
     workbench/tests/fuzz.py COUNT SEED        300 1 where they are not given
 """
+import argparse
 import itertools
 import os
 import random
+import re
 import sys
 import tempfile
 from concurrent.futures import ProcessPoolExecutor
@@ -13,27 +15,37 @@ from typing import Callable, Dict, List, Sequence, Tuple
 
 HERE = os.path.dirname(os.path.abspath(__file__))
 sys.path[:0] = [HERE, os.path.dirname(HERE)]
+import exports  # noqa: E402
+import interchange  # noqa: E402
+import navigation  # noqa: E402
+import omega  # noqa: E402
 import suite  # noqa: E402
+from analysis import Analysis  # noqa: E402
 from asked import Questions  # noqa: E402
+from documents import Document  # noqa: E402
 from expand import Text  # noqa: E402
 from expansion import Expansion  # noqa: E402
 from joined import read_requirement  # noqa: E402
 from language import Tree, parse, to_text  # noqa: E402
+from layout import formatted  # noqa: E402
 from logs import rows_of  # noqa: E402
 from operands import Question  # noqa: E402
 from explain import Explainer  # noqa: E402
-from pictures import vcd  # noqa: E402
+from pictures import GAP, HIGH, vcd  # noqa: E402
 from program import Program  # noqa: E402
 from questions import Requirement  # noqa: E402
+from report import Report  # noqa: E402
+from report_page import page  # noqa: E402
 from review import neighbours  # noqa: E402
 from sources import Source  # noqa: E402
 from tables import tables_of  # noqa: E402
 from test_verify import drawn, holds  # noqa: E402
 from verify import Check, asked  # noqa: E402
-from watch import Watch, pieces  # noqa: E402
+from single import Watch, pieces  # noqa: E402
 from waves import check_columns, columns  # noqa: E402
 
 LETTERS = ("00", "01", "10", "11")
+PICTURE_TOP = 26 + GAP / 2  # of the first wave of a picture without a title
 Word = Tuple[str, ...]
 SHORT: List[Word] = [word for length in (1, 2, 3) for word in itertools.product(LETTERS, repeat=length)]
 
@@ -106,6 +118,28 @@ def judge_automaton(case: Case) -> None:
         for letter in word:
             state = tables.step(state, letter)
         assert tables.accept(state) == automaton.accepts(word) == satisfies(case.goals[0], word)
+
+
+def judge_export(case: Case) -> None:
+    """What JSON and HOA say of short behaviours, and of a longer one."""
+    automaton = case.program.automaton(case.texts[0])
+    texts = interchange.as_json(automaton, "a"), omega.hoa(automaton, "a")
+    for word in [*SHORT, case.word]:
+        assert exports.json_accepts(texts[0], word) == exports.hoa_accepts(texts[1], word) == satisfies(case.goals[0], word)
+
+
+def judge_serve(case: Case) -> None:
+    """The verdict of a language server; and the text is the same requirement when it was formatted and a name was changed."""
+    document = Document("file:///drawn.dc", case.texts[0].replace(" && ", "&&"), 1)
+    analysis = Analysis(document, case.program, lambda _: None, 3600)
+    analysis.run()
+    verdict, summary = case.program.check(case.texts[0]), analysis.summary() or ""
+    assert summary.startswith("valid:" if verdict.valid else "not valid:" if verdict.satisfiable else "no behaviour"), summary
+    assert f"; {case.program.automaton(case.texts[0]).states} state" in summary and not analysis.fixes
+    text = formatted(document.raw) or ""
+    for edit in navigation.rename(Document("", text, 1), {"position": {"line": 0, "character": 4}, "newName": "other_p"})["documentChanges"][0]["edits"][::-1]:
+        text = Document("", text, 1).changed({"range": edit["range"], "text": edit["newText"]}, 1).raw
+    assert case.program.check(text) == verdict, text
 
 
 def judge_tests(case: Case) -> None:
@@ -182,6 +216,38 @@ def judge_set(case: Case) -> None:
     if finding is not None and finding.kind == "stuck":
         assert all(satisfies(goal, finding.word[:length]) for goal in case.goals for length in range(1, len(finding.word) + 1))
     assert questions.follows([pair[0]], pair[1]) == (case.program.implies(*case.texts) is None)
+
+
+def waves_of(page: str, caption: str) -> List[str]:
+    """The word that the pictures below a caption show, read from their lines and the numbers above; nothing where there is no such caption."""
+    letters: List[str] = []
+    for row in re.findall(r"<svg.*?</svg>", page.partition(caption)[2].partition("</figure>")[0], re.S):
+        counts = [int(many or 1) for many in re.findall(r'class="note"[^>]*>(?:(\d+) more|\d+)<', row)]
+        waves: Dict[int, List[Tuple[float, bool]]] = {}
+        for place, y in re.findall(r"M([\d.]+) ([\d.]+)H", row):
+            wave, level = divmod(float(y) - PICTURE_TOP, HIGH + GAP)
+            waves.setdefault(int(wave), []).append((float(place), level == 0))
+        columns_of = zip(*("".join("01"[high] for _, high in sorted(waves[wave])) for wave in sorted(waves)))
+        letters += ["".join(column) for count, column in zip(counts, columns_of) for _ in range(count)]
+    return letters
+
+
+def judge_report(case: Case) -> None:
+    """The behaviours on the page, read from their pictures, do what is said of them by the definition."""
+    with tempfile.TemporaryDirectory() as room:
+        path = os.path.join(room, "a.dc")
+        with open(path, "w", encoding="ascii") as file:
+            file.write(case.texts[0])
+        options = argparse.Namespace(files=[path], inputs="", signals=None, brief=True)
+        with case.program.side_by_side(1) as questions, case.program.side_by_side(1) as sections:
+            report = Report(options, case.program, questions, sections)
+            answers = report.answers()
+            text = page("drawn", "", "nobody", report.chapters(answers), answers, {})
+    verdict = case.program.check(case.texts[0])
+    for caption, known, wanted in (("that breaks it", verdict.counterexample, False), ("that keeps to it", verdict.example, True)):
+        word = waves_of(text, caption)
+        assert bool(word) == bool(known)
+        assert not word or len(word) > 6 or satisfies(case.goals[0], word) == wanted
 
 
 def judge_verify(case: Case) -> None:

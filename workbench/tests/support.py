@@ -1,15 +1,26 @@
 """What the tests share: the program, where there is one, and runs of ./ask and ./explain."""
+import contextlib
+import io
 import os
+import shutil
 import subprocess
 import tempfile
 import unittest
 from concurrent.futures import ThreadPoolExecutor
+
+import main
+from program import Program
 
 ROOT = os.path.dirname(os.path.dirname(os.path.dirname(os.path.abspath(__file__))))
 BUILT = os.path.join(ROOT, "crates", "dcvalid", "out", "dcvalid")
 PROGRAM = os.environ.get("DCVALID") or (BUILT if os.access(BUILT, os.X_OK) else None)
 
 needs_program = unittest.skipUnless(PROGRAM, "there is no program: DCVALID names none, and ./dcvalid is not built")
+
+
+def needs_tool(tool, package):
+    """Skips a test, or the tests of a class, where a tool is missing; the reason names Debian's package that has it."""
+    return unittest.skipUnless(shutil.which(tool), f"there is no {tool}: Debian has it in the package {package}")
 
 
 def examples():
@@ -23,6 +34,14 @@ def run(script, *words, stdin="", program=None, **variables):
     done = subprocess.run([os.path.join(ROOT, script), *words], input=stdin.encode("latin-1"), env=environment, stdout=subprocess.PIPE,
                           stderr=subprocess.PIPE)
     return done.returncode, done.stdout.decode(), done.stderr.decode()
+
+
+def here(*words):
+    """The status and output of a command of ./ask that has an answer, without the start of a Python."""
+    out = io.StringIO()
+    with contextlib.redirect_stdout(out):
+        status = main.dispatched(list(words), Program(PROGRAM))
+    return status, out.getvalue()
 
 
 def each(question, cases):

@@ -34,6 +34,37 @@ A shortest behaviour that meets it, 1 instant:
         output, _ = self.said("check", "/dev/stdin", output=self.REPORT, status=1, stdin="var a, // b\n long_name; infer pt;")
         self.assertIn("  instant     0  1\n  a         ______\n  long_name ###___\n", output)
 
+    def test_together(self):
+        """The names are those of the report, in its order; the place of a fault is in the file that the line names."""
+        first, second = self.file("first.dc", "var p; infer [[p]];"), self.file("second.dc", "const n = 5; var q, p; infer [[r && p]] && slen < n;")
+        report = "variables p q\npossible 1\n10\nstuck 2\n10\n11\n"
+        output, _ = self.said("together", "--tuples", "5", first, first, second, output=report, status=1)
+        self.assertEqual(output, """possible: some behaviour meets all the requirements
+stuck: some behaviour keeps to all of them so far, and no next instant keeps to all
+
+A shortest behaviour that meets all of them, 1 instant:
+  instant   0
+  p       ###
+  q       ___
+
+A shortest behaviour that keeps to all of them at each instant, and that no next instant continues, 2 instants:
+  instant   0  1
+  p       ######
+  q       ___###
+""")
+        _, error = self.said("follows", first, first, second, error="fault unknown at 18 in file 3\n", status=3)
+        self.assertTrue(error.startswith(f"{second}:1:32: fault unknown\n"), error)
+        _, error = self.said("together", first, second, error="fault names at 4 in file 1\n", status=3)
+        self.assertIn("first.dc:1:5: fault names", error)
+        self.assertIn("32 names at most together; p is one more.", error)
+        self.assertIn("--tuples N sets the limit", self.said("together", first, second, error="budget tuples 7\n", status=4)[1])
+
+    def test_follows(self):
+        text = self.file("text.dc", "var p; infer [[p]];")
+        self.assertIn("follows: each behaviour that meets all the others", self.said("follows", text, text, output="variables p\nfollows\n")[0])
+        output, _ = self.said("follows", "--table", text, text, output="variables p q\ndoes not follow 1\n01\n", status=1)
+        self.assertIn("meets all the others and breaks the first, 1 instant:\n  instant  p  q\n        0  0  1\n", output)
+
     def test_budget(self):
         text = self.file("text.dc", "var p, q;\ninfer scount p = 200 && scount q = 200;")
         output, error = self.said("check", text, error="budget states 30000 at 16 step 2\n", status=4)

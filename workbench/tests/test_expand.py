@@ -123,6 +123,11 @@ class Expand(WithFolder):
                 self.assertIsNone(made)
                 self.assertIn(wanted if "broken" in wanted else f"self.dc:{wanted}", fault)
 
+    def test_an_empty_file(self):
+        status, output, error = run("ask", "expand", self.file("empty.dc", ""))
+        self.assertEqual((status, output), (3, ""))
+        self.assertIn("empty.dc:1:1: fault syntax, at the end of the text", error)
+
     def test_a_fault_of_a_copy_names_its_numbers(self):
         self.assertIn("That is f with n = 2.", self.expand('use "broken.dc";\nvar p;\ninfer f(p, 2);\n')[1])
 

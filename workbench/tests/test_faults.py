@@ -1,8 +1,12 @@
 """Faults as ./explain says them: the place, the hint, what may stand there, and the one change. The rows are worked out by hand."""
+import contextlib
+import io
 import os
 import re
 
+import explain
 import faults
+import repairs
 import support
 from program import Program
 from support import WithFolder, needs_program, run
@@ -104,10 +108,18 @@ class Faults(WithFolder):
         self.assertEqual((status, output), (3, ""), text)
         return error.splitlines()
 
+    def in_this_process(self, path):
+        """What `explain check` does, without the start of a Python for each file."""
+        streams = io.StringIO(), io.StringIO()
+        with contextlib.redirect_stdout(streams[0]), contextlib.redirect_stderr(streams[1]):
+            status = explain.main(["check", path], Program())
+        return (status, *(stream.getvalue() for stream in streams))
+
     def test_places(self):
         paths = [self.file(f"text{number}.dc", row[0]) for number, row in enumerate(PLACES)]
         plain = support.each(lambda path: run(os.path.abspath(support.PROGRAM), "check", path), paths)
-        said = support.each(lambda path: run("explain", "check", path), paths)
+        said = [self.in_this_process(path) for path in paths]
+        self.assertEqual(run("explain", "check", paths[0]), said[0])
         for (text, kind, offset, row, column, hint), path, answer, explained in zip(PLACES, paths, plain, said):
             with self.subTest(text=text):
                 self.assertEqual((answer[0], answer[2].strip()), (3, f"fault {kind} at {offset}"))
@@ -139,6 +151,20 @@ class Faults(WithFolder):
         lines = self.explained("var p; infer [[p]]" + " " * 200_000 + "[[p]];")
         self.assertLess(max(map(len, lines)), 200)
         self.assertEqual(lines[1][lines[2].index("^"):][:5], "[[p]]")
+
+    def test_repaired_texts(self):
+        """One likely change alone, or each that fits, in texts that the program takes."""
+        rows = (
+            ("var p; infer [[p and p]];", [("write && for and", "var p; infer [[p && p]];")]),
+            ("var pump; infer <pmp>;", [("write pump for pmp", "var pump; infer <pump>;")]),
+            ("var p; infer <p>;;", [("leave out ;", "var p; infer <p>; ")]),
+        )
+        program = Program(support.PROGRAM)
+        for text, wanted in rows:
+            fault = program.fault(text)
+            tokens = repairs.may_stand(program, text, fault.place) if fault.kind == "syntax" else []
+            found = repairs.repairs(program, text, fault, tokens)
+            self.assertEqual([(it.phrase, it.text) for it in found], wanted)
 
     def test_changes_are_told_by_the_script(self):
         self.assertIn("  No fault is left if you write && for and.", self.explained("var p, q; infer [[p and q]];"))

@@ -43,7 +43,8 @@ class Programs(WithFolder):
 
     def test_no_program_that_is_killed_answers(self):
         asks = (lambda it: it.check(ALWAYS), lambda it: it.automaton(ALWAYS), lambda it: it.implies(ALWAYS, ALWAYS), lambda it: it.stuck(ALWAYS),
-                lambda it: it.observer(ALWAYS), lambda it: it.replay("", ["1", "0"]), lambda it: it.fault("infer"), lambda it: it.observer(ALWAYS, "lustre"))
+                lambda it: it.observer(ALWAYS), lambda it: it.replay("", ["1", "0"]), lambda it: it.fault("infer"), lambda it: it.observer(ALWAYS, "lustre"),
+                lambda it: it.together([ALWAYS, ALWAYS]), lambda it: it.follows(ALWAYS, [ALWAYS]))
         for text in ("kill -9 $$", "exit 0", "exit 1", "echo valid", "exit 77", "exit 255", 'REAL "$@"; kill -15 $$', 'REAL "$@" | head -n 3; kill -9 $$'):
             program = Program(self.program(text))
             for number, ask in enumerate(asks):
@@ -78,6 +79,11 @@ class Programs(WithFolder):
                 self.assertRaises(Malformed, read_automaton, automaton[:end])
             for end in range(len(report)):
                 self.assertRaises(Malformed, check_shape, "check", 1, report[:end])
+        first, second = "var p; infer [[p]];", "var p; infer slen <= 2;"
+        for command, texts in (("together", (first, second)), ("follows", (second, first))):
+            report = program.ask(command, *texts).output
+            for end in range(len(report)):
+                self.assertRaises(Malformed, check_shape, command, 1, report[:end])
         self.assertRaises(Malformed, words_of, "not valid\nsatisfiable\ncounterexample 2\n0\nexample 1\n1\n")
         self.assertRaises(Malformed, words_of, "counterexample 2\n0\n01\n")
         for name, text in (("a.auto", automaton[:-5]), ("b.report", "not valid\nsatisfiable\ncounterexample 1\n"),
@@ -266,9 +272,11 @@ class Streams(WithFolder):
     def test_what_is_stopped_leaves_nothing(self):
         room = os.path.join(self.folder, "tmp")
         os.mkdir(room)
-        for number, wait in ((signal.SIGTERM, 0.3), (signal.SIGINT, 0.3), (signal.SIGTERM, 0.6)):
+        for number, wait in ((signal.SIGTERM, 0), (signal.SIGINT, 0), (signal.SIGTERM, 0.3)):
             process = subprocess.Popen([os.path.join(ROOT, "ask"), "review", os.path.join(ROOT, "examples", "gas_burner.dc")], stdout=subprocess.PIPE,
                                        stderr=subprocess.PIPE, env={**os.environ, "DCVALID": PROGRAM, "TMPDIR": room})
+            while process.poll() is None and not any(name.startswith("ask-") for name in os.listdir(room)):
+                time.sleep(0.01)  # until its folder is there, so that it knows of signals
             time.sleep(wait)
             process.send_signal(number)
             _, err = process.communicate()

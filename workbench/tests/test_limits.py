@@ -52,6 +52,16 @@ class Limits(WithFolder):
         for option, most in (("--states", limits.STATES), ("--nodes", limits.NODES)):
             self.assertEqual([run("check", "/dev/stdin", option, str(n), text="infer pt;")[0] for n in (most, most + 1)], [1, 2])
 
+    def test_joint_names(self):
+        files = [self.file(f"{letter}.dc", f"var {names(count).replace('v', letter)}; infer pt;") for letter, count in (("a", 16), ("b", limits.JOINT_NAMES - 16), ("c", 1))]
+        self.assertEqual(run("follows", *files[:2])[0], 0)
+        status, _, error = run("follows", *files)
+        self.assertEqual((status, error.split()[:2]), (3, ["fault", "names"]))
+
+    def test_tuples(self):
+        self.assertIn(f"from 1 to {limits.TUPLES} [default: {limits.DEFAULT_TUPLES}]", run("together", "--help")[2])
+        self.assertEqual([run("together", "/dev/stdin", "--tuples", str(n), text="infer true;")[0] for n in (limits.TUPLES, limits.TUPLES + 1)], [0, 2])
+
     def test_outputs(self):
         text = f"var {names(limits.OUTPUTS + 1)}; infer true;"
         self.assertEqual(run("synth", "/dev/stdin", "--inputs", "1", text=text)[0], 0)

@@ -8,7 +8,7 @@ import time
 import unittest
 import xml.etree.ElementTree as xml
 
-from support import PROGRAM, ROOT, WithFolder, needs_program, run
+from support import PROGRAM, ROOT, WithFolder, here, needs_program, run
 
 NAMES = ("response", "never_both", "toggle", "separation", "minimum_duration", "alternation", "at_most", "always", "lift_door", "valve_held")
 FILES = [os.path.join(ROOT, "examples", name + ".dc") for name in NAMES]
@@ -61,7 +61,7 @@ class Passes(WithFolder):
             found = self.results(out)
             statuses = []
             for name, path in zip(NAMES, FILES):
-                each, said, _ = self.ask(path, log)
+                each, said = here("watch", path, log)
                 statuses.append(each)
                 self.assertEqual(found[name], said.splitlines()[0].split(";")[0])
                 rows = [line.split() for line in said[:said.find("\n", said.find("-->"))].splitlines()[1:]]
@@ -75,7 +75,7 @@ class Passes(WithFolder):
             out = self.ask(*FILES, "--log", log, "--rearm", "--json")[1]
             events = [json.loads(line) for line in out.splitlines()]
             for name, path in zip(NAMES, FILES):
-                said = self.ask(path, log, "--rearm")[1]
+                said = here("watch", path, log, "--rearm")[1]
                 wanted = [int(line.split()[1].strip(",")) for line in said.splitlines() if line.startswith("  instant ") and ", row " in line]
                 told = [it["instant"] for it in events if it["event"] == "broken" and it["requirement"] == name]
                 self.assertEqual(told[:100], wanted)
@@ -143,6 +143,30 @@ class Passes(WithFolder):
             status, out, err = self.ask(RESPONSE, "--log", self.file("bad.csv", header + "\n0,0,0\n"), *words)
             self.assertEqual((status, out), (8, ""), header)
             self.assertIn(message, err)
+
+    def test_where_an_unknown_name_comes_from(self):
+        """The requirement's file is named, with the list of signals; and the signal, where a column is missing that it is made of."""
+        fan = self.file("fan.dc", "var hot, fan;\ninfer [[hot => fan]];\n")
+        table, dump = self.file("a.csv", "t,fan\n0,1\n"), self.file("a.vcd", "$var wire 1 ! fan $end\n$enddefinitions $end\n#0\n1!\n")
+        other, made, plain = self.file("s1", "fan\n"), self.file("s2", "fan\nhot = degrees > 60\n"), self.file("s3", "hot // degrees\n")
+        for words, told in (((), f"hot is a variable of {fan}"), (("--signals", other), f"hot is a variable of {fan}; {other} does not list it"),
+                            (("--signals", made), f"hot is made of it ({made}:2)"), (("--column", "hot=warm"), f"hot is a variable of {fan}"),
+                            (("--signals", plain), f"hot is a variable of {fan}; {plain}:1 lists it as a column")):
+            for log in (table, dump):
+                for call in ((fan, "--log", log), (fan, log)):
+                    status, out, err = self.ask(*call, *words)
+                    self.assertEqual((status, out), (8, ""), err)
+                    self.assertTrue(err.endswith(f"; {told}\n"), err)
+
+    def test_glossary(self):
+        """The meaning that a requirement's file gives a name comes before that of the list of signals."""
+        fan = self.file("fan.dc", "// fan: of the cabinet\nvar hot, fan;\ninfer [[hot => fan]];\n")
+        signals = self.file("signals.txt", "hot = degrees > 60  // the upper sensor\nfan  // any\nother // none\n")
+        log = self.file("a.csv", "t,degrees,fan\n0,61,0\n")
+        for call in ((fan, "--log", log), (fan, log)):
+            out = self.ask(*call, "--signals", signals)[1]
+            self.assertIn("\n      hot = degrees > 60 // the upper sensor\n      fan // of the cabinet\n", out)
+            self.assertNotIn("other", out)
 
     def test_other_formats_are_named(self):
         for begin, message in (("MDF     4.10", "asammdf"), ("\0\0\0\0\0\0\0\1I", "fst2vcd"), ("\xff\xfet\0", "iconv"), ("\x1f\x8b\x08cut", "gzip file is")):

@@ -7,7 +7,7 @@ import xml.dom.minidom
 import pages
 from commands import ASK, PROGRAM
 from conditions import conditions
-from pictures import vcd, waves_svg
+from pictures import COLOURS, Behaviour, rows_svg, vcd, waves_svg
 from program import Program
 from support import WithFolder, examples, needs_program, run
 from waves import Column, HiddenChange, columns, in_line, spoken_runs, waves
@@ -44,12 +44,29 @@ class Waves(unittest.TestCase):
         self.assertEqual(spoken_runs("1" * 4025 + "00"), "1 at 0 .. 4024, 0 from 4025")
 
 
-class Pictures(unittest.TestCase):
+class Pictures(WithFolder):
     def test_svg(self):
-        text = waves_svg([("a < b & c", ["p", "q"], FOLDED, True), ("without variables", [], ["-"] * 3, False)])
-        xml.dom.minidom.parseString(text)
+        """The colours come with the picture, or are left to a page; the marked instant is a column of its own in a fold of three."""
+        text = waves_svg([Behaviour("a < b & c", ["p", "q"], FOLDED, 15), Behaviour("without variables", [], ["-"] * 3)])
+        document = xml.dom.minidom.parseString(text)
         self.assertNotIn("<script", text)
         self.assertIn("10 more", text)
+        said = [it.firstChild.data for it in document.getElementsByTagName("text")]
+        self.assertEqual(said[said.index("14"):said.index("17") + 1], ["14", "15", "16", "17"])
+        kinds = {it.getAttribute("class") for name in ("rect", "text", "path", "line") for it in document.getElementsByTagName(name)}
+        self.assertLessEqual({"mark", "high", "high-folded", "line", "title"}, kinds)
+        self.assertLessEqual(kinds, COLOURS.keys())
+        self.assertNotIn("#", "".join(rows_svg(Behaviour("", ["p", "q"], FOLDED), 300)))
+
+    @needs_program
+    def test_glossary(self):
+        fan, signals = self.file("fan.dc", "var hot, fan; // of all\ninfer [[hot => fan]];\n"), self.file("signals.txt", "hot // above 60\nidle // no\n")
+        trace = self.file("a.trace", "10\n")
+        for words in ((fan,), (fan, "--automaton"), (trace, "--names", "hot,fan")):
+            out = run("ask", "draw", *words, "--signals", signals)[1]
+            self.assertTrue(out.endswith("\n\n  hot: above 60\n"), out)
+        self.assertNotIn("above", run("ask", "draw", fan)[1])
+        self.assertTrue(run("ask", "review", fan, "--signals", signals)[1].endswith("\n\nWhat do the names mean?\n  hot: above 60\n"))
 
     def test_vcd(self):
         """Read back by its own rules, the dump says the word."""

@@ -4,7 +4,7 @@ import shutil
 import subprocess
 import unittest
 
-from support import PROGRAM, ROOT, WithFolder, needs_program
+from support import PROGRAM, ROOT, WithFolder, needs_program, needs_tool
 
 
 @needs_program
@@ -42,7 +42,29 @@ class Project(WithFolder):
         status, out = self.make("watch")
         self.assertNotEqual(status, 0)
         self.assertIn("broken at instant 59, row 59", out)
-        self.assertFalse(self.made("bad.oil.watched"))
+        self.assertFalse(self.made("bad.watched"))
+
+    @needs_tool("iverilog", "iverilog")
+    def test_the_log_in_a_simulator(self):
+        """The monitors in Verilog keep to the log of the example, and break where the log of the test before does: at the 60th instant without oil."""
+        status, out = self.make("hardware")
+        self.assertEqual(status, 0, out)
+        self.assertIn("both hold at each of 400 instants", out)
+        self.put("logs/bad.csv", "time,guard_closed,motor,oil\n" + "".join(f"{i},1,1,0\n" for i in range(60)))
+        status, out = self.make("hardware")
+        self.assertNotEqual(status, 0)
+        self.assertIn("instant 59: oil is broken", out)
+        self.assertFalse(self.made("bad.simulated"))
+
+    def test_the_log_where_there_is_no_simulator(self):
+        """Of the commands of the build each is there but iverilog."""
+        bare = os.path.join(self.folder, "bin")
+        os.mkdir(bare)
+        for name in ("make", "sh", "echo"):
+            os.symlink(shutil.which(name), os.path.join(bare, name))
+        done = subprocess.run(["make", f"TOP={ROOT}", "hardware"], cwd=self.room, env={**os.environ, "PATH": bare}, stdout=subprocess.PIPE)
+        self.assertEqual(done.returncode, 0)
+        self.assertIn(b"hardware: skipped", done.stdout)
 
     def test_what_is_no_answer_is_not_kept(self):
         self.put("requirements/fault.dc", "var p; infer [[p;\n")
@@ -64,6 +86,8 @@ class Project(WithFolder):
         self.assertNotEqual(status, 0)
         self.assertRegex(out, r"dry, long and oil get stuck together")
         self.assertFalse(self.made("set.xml"))
+        self.assertNotEqual(self.make("report")[0], 0)
+        self.assertTrue(self.made("report.html") and not self.made("report.made"))
 
     def test_a_promise_that_is_not_enough(self):
         self.put("requirements/guard_strict.dc", "var guard_closed, motor; infer []([[motor && !guard_closed]] => slen < 4);")

@@ -41,7 +41,7 @@ class Sources(WithFolder):
 
     def test_faults_are_told_in_the_source(self):
         fault = self.file("fault.dc", LOCK.replace("ask, open, wait", "ask, opn, wait"))
-        over = self.file("over.dc", "const n = 200;\nvar p, q;\ndefine many(x, k) as scount x = k;\ninfer many(p, n) &&\n  many(q, n);\n")
+        over = self.file("over.dc", "const n = 200;\nvar ask, open;\ndefine many(x, k) as scount x = k;\ninfer many(ask, n) &&\n  many(open, n);\n")
         notation = self.file("notation.dc", "const n = 3 4;\nvar p; infer <p>;\n")
         for words in (("review",), ("tables",), ("verify",), ("watch", self.log), ("explain", "check")):
             cases = ((fault, 3, "fault.dc:5:29: fault unknown"), (over, 4, "over.dc:4:7: over the budget"),

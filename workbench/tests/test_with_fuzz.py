@@ -22,15 +22,18 @@ if BEGUN:
 # A command, what of the workbench is another thing, and what it is.
 PLANTED = (
     ("tests", "suite.answers_of", lambda automaton, word: [0] * len(word)),
-    ("watch", "watch.Watch.go_on", lambda watch, word: None),
+    ("watch", "single.Watch.go_on", lambda watch, word: None),
     ("explain", "explain.words_of", lambda report: {}),
     ("set", "asked.Questions.refuted", lambda questions, left, right: True),
     ("automaton", "tables.Tables.leaf", lambda tables, place, letter: 0),
+    ("serve", "analysis.Analysis.decide", lambda analysis: None),
+    ("export", "omega.paths", lambda row: [(0, ())]),
     ("review", "questions.Requirement.put", lambda requirement, start, end, new: requirement.text),
     ("check", "program.words_of", lambda report: {"counterexample": ["00"], "example": ["00"]}),
     ("stuck", "program.words_of", lambda report: {"stuck": ["00"]}),
     ("implies", "program.words_of", lambda report: {"counterexample": ["00"]}),
     ("expand", "shapes.natural", lambda digits: 1),
+    ("report", "pictures._wave", lambda name, levels, *rest: []),
     ("draw", "fuzz.columns", lambda word: []),
     ("verify", "verify.ends_of", lambda diagram: {}),
 )
