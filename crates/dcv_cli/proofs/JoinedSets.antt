@@ -116,9 +116,6 @@ joining_ends files formulas joint place are past so =
 
 -- ---- automata
 
-pub autos_begin : (limits : Limits) (joint : List (List ℕ)) (files : List PlainFile) → AreAutosOver limits joint (take 0 files) []
-autos_begin limits joint files = tt
-
 pub autos_push : (limits : Limits) (joint : List (List ℕ)) (files : List PlainFile) (autos : List RawValue) (file : PlainFile) (auto : RawValue)
     → AreAutosOver limits joint files autos → IsAutoOver limits joint file auto → AreAutosOver limits joint (files ++ file ∷ []) (autos ++ auto ∷ [])
 autos_push limits joint [] [] file auto are is = (is, tt)

@@ -32,27 +32,6 @@ module _ (tuples k : ℕ) (names : List (List ℕ)) (raws : List RawValue) (widt
   decided given others one other example stuck same same' is e is' e' =
       FewTuples example stuck (moved IsPossible given one (Least example) same is e) (moved IsStuckOf others other (Least stuck) same' is' e') refl
 
-  pub many_possible : (given : List RawValue) (one : Answer) (refusal : Refusal) → given ≡ raws → IsPossible tuples k (map raw_accepts given) one → one ≡ TooMany
-      → refusal ≡ Tuples tuples → IsRefusedIn (IsDecidedTogether tuples names Ls) refusal
-  many_possible given one refusal same is e refuses =
-      subst (IsRefusedIn (IsDecidedTogether tuples names Ls)) (sym refuses)
-      (record { explained = TooManyTuples (inl (moved IsPossible given one TooMany same is e)) refl; own = refl })
-
-  pub many_stuck : (given : List RawValue) (one : Answer) (refusal : Refusal) → given ≡ raws → IsStuckOf tuples k (map raw_accepts given) one → one ≡ TooMany
-      → refusal ≡ Tuples tuples → IsRefusedIn (IsDecidedTogether tuples names Ls) refusal
-  many_stuck given one refusal same is e refuses =
-      subst (IsRefusedIn (IsDecidedTogether tuples names Ls)) (sym refuses)
-      (record { explained = TooManyTuples (inr (moved IsStuckOf given one TooMany same is e)) refl; own = refl })
-
   pub followed : (given : List RawValue) (one : Answer) (least : Option Word) → given ≡ raws → IsFollowingFirst tuples k (map raw_accepts given) one → one ≡ Least least
       → IsDecidedFollowing tuples names Ls (following_outcome names least)
   followed given one least same is e = FewFollowing least (moved IsFollowingFirst given one (Least least) same is e) refl
-
-  pub many_following : (given : List RawValue) (one : Answer) (refusal : Refusal) → given ≡ raws → IsFollowingFirst tuples k (map raw_accepts given) one → one ≡ TooMany
-      → refusal ≡ Tuples tuples → IsRefusedIn (IsDecidedFollowing tuples names Ls) refusal
-  many_following given one refusal same is e refuses =
-      subst (IsRefusedIn (IsDecidedFollowing tuples names Ls)) (sym refuses)
-      (record { explained = TooManyFollowing (moved IsFollowingFirst given one TooMany same is e) refl; own = refl })
-
-pub no_memory : (Right : Outcome → Type 0) → IsRefusedIn Right Memory
-no_memory Right = record { explained = tt; own = refl }
