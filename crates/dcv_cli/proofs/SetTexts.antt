@@ -1,13 +1,11 @@
 -- What is said of a set: its names, and what is found of it.
-use Rattle.dcv_cli.proofs.Common.{◌≡◌, ◌<◌, ◌≤◌, ℕ, List, [], ◌∷◌, length, take, map, flat_map, ap, refl, subst, arith, inl, inr, Word, Language, RawValue, raw_accepts, Refusal, sym}
-use Rattle.dcv_cli.proofs.Common.{Option, Outcome}
+use Rattle.dcv_cli.proofs.Common.{◌≡◌, ◌<◌, ◌≤◌, ℕ, List, [], ◌∷◌, length, take, map, flat_map, ap, refl, subst, arith, Word, Language, RawValue, raw_accepts}
+use Rattle.dcv_cli.proofs.Common.{Option}
 use Rattle.std.proofs.Common.{take_all}
 use Rattle.dcv_automaton_text.specs.Spelled.{name_words}
 use Rattle.dcv_print.specs.Pushed.{spaced}
-use Rattle.dcv_together.specs.Answers.{Answer, TooMany, Least, IsPossible, IsStuckOf, IsFollowingFirst}
-use Rattle.dcv_cli.specs.FileSet.{FewFollowing, FewTuples, IsDecidedFollowing, IsDecidedTogether, TooManyFollowing, TooManyTuples, following_outcome, set_outcome}
-use Rattle.dcv_cli.specs.SetAnswers.{IsRefusedIn}
-use Rattle.dcv_cli.specs.declared.refusal.Refusal.TheVariants.{Memory, Tuples}
+use Rattle.dcv_together.specs.Answers.{Answer, Least, IsPossible, IsStuckOf, IsFollowingFirst}
+use Rattle.dcv_cli.specs.FileSet.{FewFollowing, FewTuples, IsDecidedFollowing, IsDecidedTogether, following_outcome, set_outcome}
 
 -- the names, each after a space
 pub names_spaced : (names : List (List ℕ)) (n : ℕ) → length names ≤ n → 0 < length names → flat_map (λ (name : List ℕ). 32 ∷ name) (take n names) ≡ spaced (name_words names)
