@@ -1,15 +1,18 @@
 """What `set` asks of requirements: of each alone, and of several together."""
+import re
 from dataclasses import dataclass
 from typing import Callable, Dict, FrozenSet, List, Optional, Sequence, Set, Tuple, TypeVar
 
+import limits
 from answers import Word
 from automaton import Automaton
-from joined import MOST_NAMES, Requirement, joined, names_of
+from joined import Requirement, joined, names_of
 from kept import Open
 from program import Program, Refusal
 
 Got = TypeVar("Got")
 Members = Tuple[Requirement, ...]
+PAIR_TUPLES, GROUP_TUPLES = limits.DEFAULT_TUPLES, 1_000_000  # that a search may reach: for a group some 3 s and 80 MB
 
 
 @dataclass(frozen=True)
@@ -47,66 +50,48 @@ class Questions:
         except Refusal as refusal:
             if not refusal.over_limits:
                 raise
-            why = "more than 8 outputs" if refusal.message == "fault outputs" else f"over a limit of the language ({refusal.message})"
-            raise Unanswered("over the budget" if refusal.over_budget else why) from None
+            raise Unanswered(why(refusal)) from None
 
     def of(self, requirements: Sequence[Requirement]) -> Optional[Finding]:
         """The first thing that is not well with all of these together, or None. Of several it is not asked what one of them has alone."""
         members = tuple(requirements)
-        if len(names_of(members)) > MOST_NAMES:
-            raise Unanswered(f"more than {MOST_NAMES} names")
         if len(members) == 1:
             return self.alone(members[0])
+        found = self.asked(lambda: self.program.together([it.text for it in members], limit_of(members)))
+        if found.example is None:
+            return Finding("impossible", members)
         if (self.late | self.stuck) & set(members):
-            return self.impossible(members)
-        return self.at_each_instant(members)
+            return None
+        if found.stuck is None:
+            return self.controller(members)
+        return Finding("stuck", members, tuple(found.stuck)) if found.stuck else Finding("no first instant", members)
 
     def alone(self, it: Requirement) -> Optional[Finding]:
-        verdict = self.asked(lambda: self.program.check(joined([it])))
+        verdict = self.asked(lambda: self.program.check(it.text))
         if not verdict.satisfiable:
             return Finding("impossible", (it,))
         if verdict.counterexample is None:
             return Finding("always true", (it,))
         self.broken[it] = verdict.counterexample
-        try:
-            self.automata[it] = self.asked(lambda: self.program.automaton(joined([it])))
-        except Unanswered:  # then more is asked of pairs
-            pass
-        finding = self.at_each_instant((it,))
-        if finding and finding.kind == "stuck":
-            self.stuck.add(it)
-        return finding
-
-    def impossible(self, members: Members) -> Optional[Finding]:
-        satisfiable = self.asked(lambda: self.program.check(joined(members))).satisfiable
-        return None if satisfiable else Finding("impossible", members)
-
-    def at_each_instant(self, members: Members) -> Optional[Finding]:
-        """What is not well where they are kept to from the first instant on. What never gets stuck is satisfiable, and so is what
-        gets stuck after a first instant."""
-        try:
-            word = self.asked(lambda: self.program.stuck(joined(members)))
-        except Unanswered:
-            impossible = self.impossible(members) if len(members) > 1 else None
-            if impossible:
-                return impossible
-            raise
-        if word:
-            return Finding("stuck", members, tuple(word))
+        self.automata[it] = self.asked(lambda: self.program.automaton(it.text))
+        word = self.asked(lambda: self.program.stuck(it.text))
         if word is None:
-            return self.controller(members)
-        if len(members) == 1:  # no behaviour of one instant keeps to it
-            self.late.update(members)
+            return self.controller((it,))
+        if not word:  # no behaviour of one instant keeps to it
+            self.late.add(it)
             return None
-        return self.impossible(members) or Finding("no first instant", members)
+        self.stuck.add(it)
+        return Finding("stuck", (it,), tuple(word))
 
     def controller(self, members: Members) -> Optional[Finding]:
         """Whether no controller keeps to them; what is so of some of them is not asked of all."""
         if not self.inputs or any(those <= set(members) for those in self.unrealisable):
             return None
-        inputs = [name for name in names_of(members, self.inputs) if name in self.inputs]
-        text = joined(members, first=self.inputs)
+        names = names_of(members, self.inputs)
+        inputs, text = [name for name in names if name in self.inputs], joined(members, first=self.inputs)
         try:
+            if len(names) > limits.VARIABLES:
+                raise Unanswered(f"more than {limits.VARIABLES} names")
             answer = self.asked(lambda: self.program.ask("synth", text, options=("--inputs", str(len(inputs)))))
         except Unanswered as unanswered:
             self.unasked.append((members, "a controller", str(unanswered)))
@@ -118,12 +103,9 @@ class Questions:
 
     def follows(self, left: Sequence[Requirement], right: Requirement) -> bool:
         """Whether all of the left together imply the right one."""
-        names = names_of([*left, right])
-        if len(names) > MOST_NAMES:
-            raise Unanswered(f"more than {MOST_NAMES} names")
         if self.refuted(left, right):
             return False
-        return self.asked(lambda: self.program.implies(joined(left, names=names), joined([right], names=names))) is None
+        return self.asked(lambda: self.program.follows(right.text, [it.text for it in left], limit_of((right, *left)))) is None
 
     def refuted(self, left: Sequence[Requirement], right: Requirement) -> bool:
         """Whether a behaviour that breaks the right one, with the other names always false or always true, keeps to all of the left:
@@ -134,6 +116,21 @@ class Questions:
         places = {name: place for place, name in enumerate(right.variables)}
         return any(all(self.automata[it].accepts([letter_of(it.variables, places, letter, other) for letter in word]) for it in left)
                    for other in "01")
+
+
+def limit_of(members: Members) -> Tuple[str, ...]:
+    """The option that limits the search over some requirements."""
+    return ("--tuples", str(PAIR_TUPLES if len(members) == 2 else GROUP_TUPLES))
+
+
+def why(refusal: Refusal) -> str:
+    """Why the program refuses a question for a limit."""
+    tuples = re.match(r"budget tuples (\d+)", refusal.message)
+    if tuples:
+        return f"more than {tuples.group(1)} combinations of their states"
+    if refusal.over_budget:
+        return "over the budget"
+    return "more than 8 outputs" if refusal.message == "fault outputs" else f"over a limit of the language ({refusal.message})"
 
 
 def letter_of(variables: Sequence[str], places: Dict[str, int], letter: str, other: str) -> str:

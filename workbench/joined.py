@@ -4,11 +4,8 @@ import re
 from dataclasses import dataclass, field, replace
 from typing import Callable, Dict, FrozenSet, Iterable, Iterator, List, Optional, Sequence, Tuple
 
-import limits
 from glossary import glossary, sentence_of
 from language import File, Tree, parse, read_text, to_text
-
-MOST_NAMES = limits.VARIABLES
 
 
 @dataclass(eq=False)
@@ -82,10 +79,10 @@ def macro_lines(requirement: Requirement, prefix: str, number: int) -> Iterator[
     yield f"define {prefix}{number} as {to_text(renamed(requirement.whole.goal, names))};"
 
 
-def joined(requirements: Sequence[Requirement], names: Optional[Sequence[str]] = None, first: Sequence[str] = ()) -> str:
-    """A file whose formula is that of all the requirements together; `names` may declare more variables."""
+def joined(requirements: Sequence[Requirement], first: Sequence[str] = ()) -> str:
+    """A file whose formula is that of all the requirements together; the variables of `first` stand in front."""
     prefix = fresh_prefix(requirements, "r")
-    declared = names if names is not None else names_of(requirements, first)
+    declared = names_of(requirements, first)
     lines = [f"var {', '.join(declared)};"] if declared else []
     for number, it in enumerate(requirements):
         if (prefix, number) not in it.lines:

@@ -9,7 +9,7 @@ import expand
 import faults
 from asked import Finding, Questions, Unanswered
 from glossary import glossary
-from joined import Requirement, joined, named, read_requirement
+from joined import Requirement, named, read_requirement
 from language import read_text
 from nearby import near_names, strange_names
 from printer import print_pdf
@@ -106,7 +106,7 @@ class Report:
     def others(self, finding: Finding, it: Requirement) -> List[Tuple[Sequence[Requirement], Sequence[str]]]:
         rest = [other for other in finding.members if other is not it]
         try:
-            example = self.asked.asked(lambda: self.program.check(joined(rest))).example
+            example = self.asked.asked(lambda: self.program.together([other.text for other in rest])).example
         except Unanswered:
             return []
         return [(rest, example)] if example else []

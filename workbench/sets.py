@@ -1,16 +1,19 @@
 """`set`: several requirements together: each alone, pairs, groups that share names, a smallest part that is to blame, what follows from the others."""
 import argparse
+import operator
 import os
 import sys
 import time
 from collections import defaultdict
 from concurrent.futures import ThreadPoolExecutor
 from dataclasses import dataclass, field
+from itertools import accumulate
 from typing import Callable, Dict, FrozenSet, List, Optional, Sequence, Set, Tuple, TypeVar
 
 import expand
-from asked import Finding, Members, Questions, Unanswered
-from joined import MOST_NAMES, Requirement, named, read_requirement
+from asked import GROUP_TUPLES, Finding, Members, Questions, Unanswered
+from grouping import grouped
+from joined import Requirement, named, read_requirement
 from kept import Kept, Planned
 from nearby import near_names, strange_names
 from program import Program
@@ -21,7 +24,6 @@ from sources import load
 
 Got = TypeVar("Got")
 Pair = Tuple[Requirement, Requirement]
-MOST_STATES = 100_000  # the product of the states of a group that is asked about
 SOUND = ("stuck", "unrealisable")  # what one may be alone and still be asked about with others
 
 
@@ -84,7 +86,8 @@ class Survey:
         for it in answers.requirements:
             answers.alone[it] = Finding("fault", (it,)) if it.fault is not None else None
         answers.alone.update(zip(good, self.each("alone", self.one, good)))
-        sound = [it for it in good if (answers.alone[it] or Finding("stuck")).kind in SOUND]
+        refused = {members[0] for members, what, _ in answers.unasked if what == "alone"}
+        sound = [it for it in good if it not in refused and (answers.alone[it] or Finding("stuck")).kind in SOUND]
         answers.pairs = self.pairs(sound)
         if not self.waits():
             self.each("pairs", self.pair, answers.pairs)
@@ -150,69 +153,57 @@ class Survey:
         """Groups that are well, in rounds: those that are planned are asked about side by side, and who was left out joins the next."""
         todo = list(requirements)
         while todo:
-            planned = self.planned(todo)
-            asked = self.each("groups", self.grown, planned)
+            planned = grouped(todo, self.order, self.bad)
+            self.answers.unasked += [(tuple(self.in_order(group)), "with others", why) for group, why in planned if why]
+            asked = self.each("groups", self.grown, [group for group, _ in planned])
             self.answers.groups += [kept for kept, _ in asked]
             left = {it for _, dropped in asked for it in dropped}
             todo = [it for it in todo if it in left]
 
-    def planned(self, requirements: Sequence[Requirement]) -> List[List[Requirement]]:
-        """Each requirement in one group, which is joined by the one that shares most names with it, as far as its names, its states and
-        what is known of pairs allow."""
-        by_name: Dict[str, Dict[Requirement, None]] = defaultdict(dict)
-        for it in requirements:
-            for name in it.variables:
-                by_name[name][it] = None
-        groups, todo = [], dict.fromkeys(requirements)
-        while todo:
-            group = [next(iter(todo))]
-            shared: Dict[Requirement, int] = {}
-            names: Set[str] = set()
-            while group[-1] in todo:
-                del todo[group[-1]]
-                for name in set(group[-1].variables) - names:
-                    names.add(name)
-                    for it in by_name[name]:
-                        shared[it] = shared.get(it, 0) + 1
-                near = sorted((it for it in shared if it in todo), key=lambda it: (-shared[it], self.order[it]))
-                group += [it for it in near if self.fits(group, names, it)][:1]
-            others = [it for it in near if not any(frozenset((it, other)) in self.bad for other in group)]
-            if others:
-                why = f"{len(others)} more share names: more than {MOST_NAMES} names, or {MOST_STATES} states, together"
-                self.answers.unasked.append((tuple(sorted(group, key=self.order.__getitem__)), "with others", why))
-            groups.append(group)
-        return groups
-
-    def fits(self, group: Sequence[Requirement], names: Set[str], it: Requirement) -> bool:
-        if len(names | set(it.variables)) > MOST_NAMES or any(frozenset((other, it)) in self.bad for other in group):
-            return False
-        states = self.states(it)
-        for other in group:
-            states *= self.states(other)
-        return len(group) == 1 or states <= MOST_STATES
-
-    def states(self, it: Requirement) -> int:
-        automaton = self.questions.automata.get(it)
-        return automaton.states if automaton else MOST_STATES
+    def sure(self, group: Sequence[Requirement]) -> int:
+        """How many of a group, from its first on, can be asked about whatever their behaviours reach; two are asked about as a pair."""
+        states = [self.questions.automata[it].states for it in group]
+        return max(2, sum(1 for product in accumulate(states, operator.mul) if product <= GROUP_TUPLES))
 
     def grown(self, group: List[Requirement]) -> Tuple[List[Requirement], List[Requirement]]:
-        """The group as far as all is well with it and can be asked, and who had to leave it."""
-        kept, dropped = list(group), []
-        while len(kept) > 2:
-            in_order = sorted(kept, key=self.order.__getitem__)
-            before = len(self.answers.unasked)
-            finding = self.ask(in_order, "together", lambda: self.questions.of(in_order))  # pylint: disable=cell-var-from-loop
-            if finding is not None:
-                finding = self.smallest(finding)
-                self.note(finding)
-            elif not any(members == tuple(in_order) for members, what, _ in self.answers.unasked[before:] if what == "together"):
+        """The group as far as all is well with it and can be asked, and who had to leave it. Beyond those that can be asked about in any
+        case it grows by one at a time, until its search reaches too many combinations of states."""
+        size = self.sure(group)
+        kept, rest, well = group[:size], group[size:], group[:2]  # pairs are well
+        dropped: List[Requirement] = []
+        while kept != well or rest:
+            if kept == well:
+                kept.append(rest.pop(0))
+            finding, is_refused = self.blamed(kept)
+            if is_refused and self.waits():
+                return self.in_order(kept + rest), []
+            if is_refused:
+                dropped, rest = dropped + [kept.pop()] + rest, []
+            elif finding is None:
+                well = list(kept)
+            elif finding.kind == "unrealisable":
                 break
-            if finding is not None and finding.kind == "unrealisable":
-                break
-            last = next(it for it in reversed(kept) if finding is None or it in finding.members)
-            kept.remove(last)
-            dropped.append(last)
-        return sorted(kept, key=self.order.__getitem__), dropped
+            else:
+                last = next(it for it in reversed(kept) if it in finding.members)
+                kept.remove(last)
+                dropped.append(last)
+            well = list(kept) if len(kept) <= 2 else well
+        return self.in_order(kept), dropped + rest
+
+    def blamed(self, group: Sequence[Requirement]) -> Tuple[Optional[Finding], bool]:
+        """What is not well with a group, of a smallest part; and whether the question was refused."""
+        try:
+            finding = self.questions.of(self.in_order(group))
+        except Unanswered as unanswered:
+            self.answers.unasked.append(((*self.in_order(group[:-1]), group[-1]), "together", str(unanswered)))
+            return None, True
+        if finding is not None:
+            finding = self.smallest(finding)
+            self.note(finding)
+        return finding, False
+
+    def in_order(self, group: Sequence[Requirement]) -> List[Requirement]:
+        return sorted(group, key=self.order.__getitem__)
 
     def smallest(self, finding: Finding) -> Finding:
         """The finding of a smallest part that still has one: one requirement after another is left out."""

@@ -18,6 +18,7 @@ from forms import Formula
 from language import Fault, Tree
 from printed import Printed, tables_in_c, unit_in_c, unit_in_lustre
 from program import NO_PROGRAM, Program, Refusal
+from verify_sets import Joint, check_answer
 
 # ---- the program's answers about a file, of which `ask` asks the program
 
@@ -153,8 +154,10 @@ class Check:
 def add_arguments(parser: argparse.ArgumentParser) -> None:
     parser.epilog = "Status 0: what was asked is verified. 1: there is a difference. 3: it cannot be checked, and why."
     parser.add_argument("file", metavar="FILE")
-    parser.add_argument("other", metavar="FILE", nargs="?", help="with --implies the second formula")
+    parser.add_argument("others", metavar="FILE", nargs="*", help="with --implies the second formula, with --together and --follows the others")
     parser.add_argument("--implies", action="store_true", help="checks the answer of implies too, to both files")
+    parser.add_argument("--together", action="store_true", help="checks the answer of together too, to all files")
+    parser.add_argument("--follows", action="store_true", help="checks the answer of follows too, to all files")
     parser.add_argument("--stuck", action="store_true", help="checks the answer of stuck too")
     parser.add_argument("--observer", action="store_true", help="checks the observers of c, lustre and tables too")
     parser.add_argument("--inputs", type=int, metavar="N", help="checks the answer of synth too, with so many inputs")
@@ -174,7 +177,7 @@ def asked(program: Program, command: str, *texts: str, options: Sequence[str] = 
 def verified(options: argparse.Namespace, ask: Ask) -> Iterator[str]:
     """What is verified, each line when it is."""
     checks: List[Check] = []
-    for path, shown in ((options.file, options.shown), (options.other, options.other))[:1 + options.implies]:
+    for path, shown in ((options.file, options.shown), *((other, other) for other in options.others)):
         whole = Text(path, shown)
         check = Check(ask, whole.text, whole)
         checks.append(check)
@@ -186,6 +189,11 @@ def verified(options: argparse.Namespace, ask: Ask) -> Iterator[str]:
     if options.implies:
         checks[0].implies(checks[1])
         yield "the answer to implies"
+    if options.together or options.follows:
+        joint = Joint([(check.automaton, check.names) for check in checks])
+        for command in ["together"] * options.together + ["follows"] * options.follows:
+            check_answer(command, getattr(joint, command)(), ask(command, *[check.text for check in checks]))
+            yield f"the answer to {command}"
     if options.stuck:
         checks[0].stuck()
         yield "the answer to stuck"
@@ -197,8 +205,8 @@ def verified(options: argparse.Namespace, ask: Ask) -> Iterator[str]:
 
 
 def run(options: argparse.Namespace, program: Program) -> int:
-    if options.implies != (options.other is not None):
-        print("ask verify: --implies takes two files, and nothing else does", file=sys.stderr)
+    if options.implies and len(options.others) != 1 or options.others and not (options.implies or options.together or options.follows):
+        print("ask verify: --implies takes two files, --together and --follows any number, and the others one", file=sys.stderr)
         return 2
     try:
         for line in verified(options, partial(asked, program)):

@@ -13,6 +13,7 @@ import verify
 from language import Fault, parse, read_text
 from program import Program
 from support import PROGRAM, ROOT, WithFolder, needs_program, run
+from verify_sets import Joint, check_answer
 
 RESPONSE = os.path.join(ROOT, "examples", "response.dc")
 CROSSING = os.path.join(ROOT, "examples", "crossing.dc")
@@ -244,6 +245,10 @@ class Right(WithFolder):
             status, out, _ = run("ask", "verify", "--implies", *pair)
             self.assertEqual((status, out.splitlines()[-1]), (0, "verified: the answer to implies"))
         self.assertEqual(run("ask", "verify", strict, loose)[0], 2)
+        self.assertEqual(run("ask", "verify", "--implies", strict, loose, loose)[0], 2)
+        other = self.file("c.dc", "var q, p; infer [[q => !p]];")
+        status, out, _ = run("ask", "verify", "--together", "--follows", loose, other, strict)
+        self.assertEqual((status, out.splitlines()[-2:]), (0, ["verified: the answer to together", "verified: the answer to follows"]))
         self.assertIn("asked: lustre\n    var p;", run("ask", "verify", "--show", "--observer", strict)[2])
 
     def test_what_cannot_be_checked(self):
@@ -406,6 +411,21 @@ class Planted(unittest.TestCase):
         for output in ("implies\n", "does not imply\ncounterexample 2\n1\n0\n", "does not imply\ncounterexample 3\n1\n1\n1\n"):
             checks[0].ask = Changed("implies", texts[0], output)
             self.assertRaises(verify.Wrong, checks[0].implies, checks[1])
+
+    def test_together_and_follows(self):
+        """The lamp has been on for 3 instants: it must not be on, and must not be off."""
+        texts = "var lamp; infer []({{!lamp}} ^ [lamp] ^ <!lamp> => slen >= 5);", "var q, lamp; infer []([[lamp]] => slen < 3);"
+        joint = Joint([(check.automaton, check.names) for check in map(checked, texts)])
+        stuck = "variables lamp q\npossible 1\n00\nstuck 4\n00\n10\n10\n10\n"
+        self.assertEqual(joint.together(), (1, stuck))
+        check_answer("together", joint.together(), real("together", *texts))
+        for status, output in ((1, stuck.replace("lamp q", "q lamp")), (1, stuck.replace("10\n10\n10", "10\n10\n11")), (1, stuck.replace("possible 1\n00", "possible 1\n01")),
+                               (0, "variables lamp q\npossible 1\n00\nnever stuck\n"), (0, stuck), (1, "variables lamp q\nimpossible\nstuck 0\n")):
+            self.assertRaisesRegex(verify.Wrong, "the answer to together", check_answer, "together", joint.together(), (status, output))
+        broken = "variables lamp q\ndoes not follow 3\n00\n10\n00\n"
+        self.assertEqual(joint.follows(), (1, broken))
+        check_answer("follows", joint.follows(), real("follows", *texts))
+        self.assertEqual(Joint([(check.automaton, check.names) for check in map(checked, ("var p; infer slen >= 0;", texts[0]))]).follows(), (0, "variables p lamp\nfollows\n"))
 
     def test_stuck(self):
         for goal, found in (("slen <= 1", "stuck 2\n0\n0\n"), ("false", "stuck 0\n"), ("<p> ^ true", "never stuck\n")):
