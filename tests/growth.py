@@ -49,6 +49,8 @@ COMMANDS = [
     ["sweep", "7", "3"], ["sweep", "0", "1"], ["check", "capture.dc"], ["all", "each.dc"], ["implies", "each.dc", "fault.dc"],
     *([f"replay-{kind}", f"each.{end}", trace] for kind, end in (("lustre", "lus"), ("c", "c")) for trace in ("one.trace", "bad.trace", "no.trace")),
     ["stuck", "each.dc"], ["stuck", "stuck.dc"], ["stuck", "fault.dc"], ["--help"], ["check"],
+    ["together", "each.dc", "both.dc"], ["together", "edge.dc", "stuck.dc", "response.dc"], ["together", "each.dc", "fault.dc", "both.dc"],
+    ["together", "response.dc", "stuck.dc", "--tuples", "1"], ["follows", "each.dc", "both.dc"], ["follows", "edge.dc", "each.dc"],
 ]
 
 

@@ -22,6 +22,12 @@ tables() {
   [ $? = "$1" ] && grep -q '^enum { states = ' "$work/tables" || { echo "FAILED: tables of $2"; failed=1; }
 }
 
+# together NAME: the same of the text beside itself, whose first line has the names
+together() {
+  (ulimit -s 2048 && exec "$program" together "$work/text" "$work/text" >"$work/together")
+  [ $? -le 1 ] && grep -q '^variables ' "$work/together" || { echo "FAILED: together of $1"; failed=1; }
+}
+
 # row STATUS LINE NAME TEXT..: a text in pieces, and the first line of what is written of it
 row() {
   local status=$1 line=$2 name=$3
@@ -29,7 +35,7 @@ row() {
   printf '%s' "$@" >"$work/text"
   run "$status" "$line" check "$name"
   case $status in
-    0 | 1) run "$status" 'automaton 2' automaton "$name" && tables "$status" "$name" ;;
+    0 | 1) run "$status" 'automaton 2' automaton "$name" && tables "$status" "$name" && together "$name" ;;
     *) run "$status" "$line" automaton "$name" && run "$status" "$line" stuck "$name" ;;
   esac
   rows=$((rows + 1))
