@@ -49,6 +49,7 @@ COMMANDS = [
     ["sweep", "7", "3"], ["sweep", "0", "1"], ["check", "capture.dc"], ["all", "each.dc"], ["implies", "each.dc", "fault.dc"],
     *([f"replay-{kind}", f"each.{end}", trace] for kind, end in (("lustre", "lus"), ("c", "c")) for trace in ("one.trace", "bad.trace", "no.trace")),
     ["stuck", "each.dc"], ["stuck", "stuck.dc"], ["stuck", "fault.dc"], ["--help"], ["check"],
+    ["together", "each.dc", "both.dc", "stuck.dc"], ["together", "each.dc", "fault.dc"], ["follows", "each.dc", "response.dc"], ["follows", "both.dc", "both.dc"],
 ]
 
 

@@ -22,6 +22,13 @@ tables() {
   [ $? = "$1" ] && grep -q '^enum { states = ' "$work/tables" || { echo "FAILED: tables of $2"; failed=1; }
 }
 
+# together NAME: what is said of the file as a set of its own
+together() {
+  local text
+  text=$(ulimit -s 2048 && exec "$program" together "$work/text" 2>&1)
+  [ $? -le 1 ] && [ "${text%% *}" = variables ] || { echo "FAILED: together of $1"; failed=1; }
+}
+
 # row STATUS LINE NAME TEXT..: a text in pieces, and the first line of what is written of it
 row() {
   local status=$1 line=$2 name=$3
@@ -29,8 +36,8 @@ row() {
   printf '%s' "$@" >"$work/text"
   run "$status" "$line" check "$name"
   case $status in
-    0 | 1) run "$status" 'automaton 2' automaton "$name" && tables "$status" "$name" ;;
-    *) run "$status" "$line" automaton "$name" && run "$status" "$line" stuck "$name" ;;
+    0 | 1) run "$status" 'automaton 2' automaton "$name" && tables "$status" "$name" && together "$name" ;;
+    *) run "$status" "$line" automaton "$name" && run "$status" "$line" stuck "$name" && run "$status" "$line in file 1" together "$name" ;;
   esac
   rows=$((rows + 1))
 }
