@@ -22,10 +22,11 @@ tables() {
   [ $? = "$1" ] && grep -q '^enum { states = ' "$work/tables" || { echo "FAILED: tables of $2"; failed=1; }
 }
 
-# together NAME: the same of the text beside itself, whose first line has the names
+# together NAME: what is said of the file as a set of its own
 together() {
-  (ulimit -s 2048 && exec "$program" together "$work/text" "$work/text" >"$work/together")
-  [ $? -le 1 ] && grep -q '^variables ' "$work/together" || { echo "FAILED: together of $1"; failed=1; }
+  local text
+  text=$(ulimit -s 2048 && exec "$program" together "$work/text" 2>&1)
+  [ $? -le 1 ] && [ "${text%% *}" = variables ] || { echo "FAILED: together of $1"; failed=1; }
 }
 
 # row STATUS LINE NAME TEXT..: a text in pieces, and the first line of what is written of it
@@ -36,7 +37,7 @@ row() {
   run "$status" "$line" check "$name"
   case $status in
     0 | 1) run "$status" 'automaton 2' automaton "$name" && tables "$status" "$name" && together "$name" ;;
-    *) run "$status" "$line" automaton "$name" && run "$status" "$line" stuck "$name" ;;
+    *) run "$status" "$line" automaton "$name" && run "$status" "$line" stuck "$name" && run "$status" "$line in file 1" together "$name" ;;
   esac
   rows=$((rows + 1))
 }

@@ -32,8 +32,9 @@ class Unanswered(Exception):
 class Questions:
     """What is asked of some requirements together."""
 
-    def __init__(self, program: Program, inputs: Sequence[str]) -> None:
+    def __init__(self, program: Program, inputs: Sequence[str], tuples: Optional[int] = None) -> None:
         self.program, self.inputs = program, inputs
+        self.pair_tuples, self.group_tuples = tuples or PAIR_TUPLES, tuples or GROUP_TUPLES
         self.late: Set[Requirement] = set()  # requirements that no behaviour of one instant satisfies: they are judged at the end
         self.stuck: Set[Requirement] = set()  # those that get stuck alone
         self.unrealisable: List[FrozenSet[Requirement]] = []  # those that no controller keeps to
@@ -57,7 +58,7 @@ class Questions:
         members = tuple(requirements)
         if len(members) == 1:
             return self.alone(members[0])
-        found = self.asked(lambda: self.program.together([it.text for it in members], limit_of(members)))
+        found = self.asked(lambda: self.program.together([it.text for it in members], self.limit(members)))
         if found.example is None:
             return Finding("impossible", members)
         if (self.late | self.stuck) & set(members):
@@ -105,7 +106,11 @@ class Questions:
         """Whether all of the left together imply the right one."""
         if self.refuted(left, right):
             return False
-        return self.asked(lambda: self.program.follows(right.text, [it.text for it in left], limit_of((right, *left)))) is None
+        return self.asked(lambda: self.program.follows(right.text, [it.text for it in left], self.limit((right, *left)))) is None
+
+    def limit(self, members: Members) -> Tuple[str, ...]:
+        """The option that limits the search over some requirements."""
+        return "--tuples", str(self.pair_tuples if len(members) == 2 else self.group_tuples)
 
     def refuted(self, left: Sequence[Requirement], right: Requirement) -> bool:
         """Whether a behaviour that breaks the right one, with the other names always false or always true, keeps to all of the left:
@@ -116,11 +121,6 @@ class Questions:
         places = {name: place for place, name in enumerate(right.variables)}
         return any(all(self.automata[it].accepts([letter_of(it.variables, places, letter, other) for letter in word]) for it in left)
                    for other in "01")
-
-
-def limit_of(members: Members) -> Tuple[str, ...]:
-    """The option that limits the search over some requirements."""
-    return ("--tuples", str(PAIR_TUPLES if len(members) == 2 else GROUP_TUPLES))
 
 
 def why(refusal: Refusal) -> str:
