@@ -12,7 +12,7 @@ from program import Program, Refusal
 
 Got = TypeVar("Got")
 Members = Tuple[Requirement, ...]
-PAIR_TUPLES, GROUP_TUPLES = limits.DEFAULT_TUPLES, 1_000_000  # that a search may reach: for a group some 3 s and 80 MB
+LEAST_TUPLES = 50_000  # that a search over a group may reach, however many members it has
 
 
 @dataclass(frozen=True)
@@ -32,9 +32,8 @@ class Unanswered(Exception):
 class Questions:
     """What is asked of some requirements together."""
 
-    def __init__(self, program: Program, inputs: Sequence[str], tuples: Optional[int] = None) -> None:
-        self.program, self.inputs = program, inputs
-        self.pair_tuples, self.group_tuples = tuples or PAIR_TUPLES, tuples or GROUP_TUPLES
+    def __init__(self, program: Program, inputs: Sequence[str], tuples: int = limits.DEFAULT_TUPLES) -> None:
+        self.program, self.inputs, self.tuples = program, inputs, tuples
         self.late: Set[Requirement] = set()  # requirements that no behaviour of one instant satisfies: they are judged at the end
         self.stuck: Set[Requirement] = set()  # those that get stuck alone
         self.unrealisable: List[FrozenSet[Requirement]] = []  # those that no controller keeps to
@@ -58,7 +57,7 @@ class Questions:
         members = tuple(requirements)
         if len(members) == 1:
             return self.alone(members[0])
-        found = self.asked(lambda: self.program.together([it.text for it in members], self.limit(members)))
+        found = self.asked(lambda: self.program.together([it.text for it in members], ("--tuples", str(self.limit(len(members))))))
         if found.example is None:
             return Finding("impossible", members)
         if (self.late | self.stuck) & set(members):
@@ -106,11 +105,12 @@ class Questions:
         """Whether all of the left together imply the right one."""
         if self.refuted(left, right):
             return False
-        return self.asked(lambda: self.program.follows(right.text, [it.text for it in left], self.limit((right, *left)))) is None
+        return self.asked(lambda: self.program.follows(right.text, [it.text for it in left], ("--tuples", str(self.limit(1 + len(left)))))) is None
 
-    def limit(self, members: Members) -> Tuple[str, ...]:
-        """The option that limits the search over some requirements."""
-        return "--tuples", str(self.pair_tuples if len(members) == 2 else self.group_tuples)
+    def limit(self, members: int) -> int:
+        """How many combinations of states a search may reach: with each member more than two a fifth, since an instant has then so many
+        more ways to go on."""
+        return max(self.tuples // int(5 ** (members - 2)), min(self.tuples, LEAST_TUPLES))
 
     def refuted(self, left: Sequence[Requirement], right: Requirement) -> bool:
         """Whether a behaviour that breaks the right one, with the other names always false or always true, keeps to all of the left:

@@ -12,7 +12,7 @@ from typing import Callable, Dict, FrozenSet, List, Optional, Sequence, Set, Tup
 
 import expand
 import limits
-from asked import GROUP_TUPLES, PAIR_TUPLES, Finding, Members, Questions, Unanswered
+from asked import LEAST_TUPLES, Finding, Members, Questions, Unanswered
 from grouping import grouped
 from joined import Requirement, named, read_requirement
 from kept import Kept, Planned
@@ -164,7 +164,7 @@ class Survey:
     def sure(self, group: Sequence[Requirement]) -> int:
         """How many of a group, from its first on, can be asked about whatever their behaviours reach; two are asked about as a pair."""
         states = [self.questions.automata[it].states for it in group]
-        return max(2, sum(1 for product in accumulate(states, operator.mul) if product <= self.questions.group_tuples))
+        return max(2, sum(1 for members, product in enumerate(accumulate(states, operator.mul), 1) if product <= self.questions.limit(max(2, members))))
 
     def grown(self, group: List[Requirement]) -> Tuple[List[Requirement], List[Requirement]]:
         """The group as far as all is well with it and can be asked, and who had to leave it. Beyond those that can be asked about in any
@@ -244,8 +244,8 @@ def add_arguments(parser: argparse.ArgumentParser) -> None:
     parser.add_argument("--inputs", metavar="NAMES", default="", help="the inputs, as a,b: asks too whether a controller of the other names exists")
     parser.add_argument("--signals", metavar="LIST", help="the signals that there are, a line for each, as watch reads them: other names are reported")
     parser.add_argument("--jobs", metavar="N", type=int, default=os.cpu_count() or 2, help="how many questions are asked at a time")
-    parser.add_argument("--tuples", metavar="N", type=int, help=f"the most combinations of states that a search may reach, 1 to {limits.TUPLES} ({PAIR_TUPLES} for a pair and "
-                        f"{GROUP_TUPLES} for a group where it is not given)")
+    parser.add_argument("--tuples", metavar="N", type=int, default=limits.DEFAULT_TUPLES, help="the most combinations of states that the search over a pair may reach, 1 to "
+                        f"{limits.TUPLES} ({limits.DEFAULT_TUPLES} where it is not given); with each further member of a group a fifth, and at least {LEAST_TUPLES}")
     parser.add_argument("--all", action="store_true", help="lists each question that was not asked, too")
     parser.add_argument("--cache", metavar="FOLDER", help="keeps answers there, and asks no question again of the same texts and program")
     parser.add_argument("--plan", metavar="FOLDER", help="asks nothing: writes each open question there, and a list of jobs that answer them")
@@ -270,7 +270,7 @@ def run(options: argparse.Namespace, program: Program) -> int:
     signals = listed(options.signals)
     if folders:
         program.kept = Kept(folders[0], program.command()) if options.cache else Planned(folders[0], program.command(), asks=not options.plan)
-    tuples = None if options.tuples is None else min(max(options.tuples, 1), limits.TUPLES)
+    tuples = min(max(options.tuples, 1), limits.TUPLES)
     with program.side_by_side(max(1, options.jobs)) as pool:
         answers = Survey(requirements, Questions(program, inputs, tuples), pool, inputs).run()
     if isinstance(program.kept, Planned) and program.kept.planned:
