@@ -12,7 +12,7 @@ from program import Program, Refusal
 
 Got = TypeVar("Got")
 Members = Tuple[Requirement, ...]
-LEAST_TUPLES = 50_000  # that a search over a group may reach, however many members it has
+LEAST_TUPLES = 10_000  # that a search over a group may reach, however many members it has
 
 
 @dataclass(frozen=True)
