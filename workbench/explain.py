@@ -4,12 +4,12 @@ import os
 import re
 import subprocess
 import sys
-import tempfile
 from typing import Dict, List, Sequence, TextIO, Tuple
 
 import faults
 import hints
 import limits
+import rooms
 from answers import words_of
 from automaton import Automaton
 from commands import PROGRAM
@@ -239,7 +239,7 @@ def main(words: List[str], program: Program) -> int:
         return 0 if words else 2
     digits, program.show = "--table" in words, "--show" in words
     words = [word for word in words if word not in ("--table", "--show")]
-    with tempfile.TemporaryDirectory(prefix="ask-") as room:
+    with rooms.room() as room:
         question = Question(words, room)
         if not program.is_there() and needs_no_build(question):
             return subprocess.run([SCRIPT, *question.words], check=False).returncode

@@ -14,6 +14,7 @@ from typing import List, NoReturn, Optional, Sequence
 
 import expand
 import faults
+import rooms
 from answers import Malformed
 from commands import Command, command_of, listing, module_of, parser_of
 from language import MOST_BYTES, MOST_TEXT, Fault
@@ -62,11 +63,8 @@ def stop(number: int, _: Optional[FrameType]) -> NoReturn:
     raise Stopped(number)
 
 
-SIGNALS = (signal.SIGINT, signal.SIGTERM, signal.SIGHUP)
-
-
 def quieten() -> None:
-    for number in SIGNALS:
+    for number in rooms.SIGNALS:
         signal.signal(number, signal.SIG_IGN)
 
 
@@ -83,10 +81,10 @@ def prepare() -> None:
             kind, encoding = Errors if name == "stderr" else Shown, stream.encoding
             setattr(sys, name, kind(stream.detach(), encoding=encoding, errors="backslashreplace", line_buffering=name == "stderr"))
     tempfile.gettempdir()  # it writes a file to find out, and so leaves none
-    for number in SIGNALS:
+    for number in rooms.SIGNALS:
         if signal.getsignal(number) != signal.SIG_IGN:
             signal.signal(number, stop)
-    signal.pthread_sigmask(signal.SIG_UNBLOCK, SIGNALS)
+    signal.pthread_sigmask(signal.SIG_UNBLOCK, rooms.SIGNALS)
 
 
 def main(words: Sequence[str]) -> int:
@@ -169,7 +167,7 @@ def dispatched(words: List[str], program: Program) -> int:
         return int(module.main(words[1:], program))
     options = parser_of(command).parse_args(words[1:])
     program.show = options.show
-    with tempfile.TemporaryDirectory(prefix="ask-") as room:
+    with rooms.room() as room:
         keep_file(options, room, command)
         try:
             return int(module.run(options, program))

@@ -2,9 +2,9 @@
 import os
 import shutil
 import subprocess
-import tempfile
 from pathlib import Path
 
+import rooms
 from streams import Unwritten
 
 NAMES = ("chromium", "chromium-browser", "google-chrome", "google-chrome-stable")
@@ -16,7 +16,7 @@ def print_pdf(page: str, out: str) -> None:
     chromium = next((found for found in map(shutil.which, NAMES) if found), None)
     if chromium is None:
         raise Unwritten(f"{out} could not be written: there is no {' or '.join(NAMES[:2])}; the Debian package is chromium, and any browser prints the page")
-    with tempfile.TemporaryDirectory(prefix="ask-") as room:
+    with rooms.room() as room:
         made = os.path.join(room, "page.pdf")
         root = ["--no-sandbox"] if os.geteuid() == 0 else []  # it refuses to run as root otherwise
         words = [chromium, "--headless", "--disable-gpu", f"--user-data-dir={room}", "--no-pdf-header-footer", "--print-to-pdf-no-header",

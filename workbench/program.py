@@ -5,12 +5,12 @@ import shutil
 import signal
 import subprocess
 import sys
-import tempfile
 import threading
 from contextlib import contextmanager
 from dataclasses import dataclass
 from typing import TYPE_CHECKING, Iterator, List, NamedTuple, Optional, Sequence, Set, TextIO
 
+import rooms
 from answers import SHAPES, Malformed, Word, check_shape, words_of
 from automaton import Automaton, read_automaton
 
@@ -189,7 +189,7 @@ class Program:
         if len(texts) == 1:
             answer = self.run([command, "/dev/stdin", *options], texts[0])
         else:
-            with tempfile.TemporaryDirectory(prefix="ask-") as room:
+            with rooms.room() as room:
                 paths = [os.path.join(room, str(number)) for number in range(len(texts))]
                 for path, text in zip(paths, texts):
                     with open(path, "w", encoding="latin-1", newline="") as file:

@@ -3,9 +3,9 @@ import os
 import re
 import shutil
 import subprocess
-import tempfile
 from typing import Callable, List, Optional, Sequence
 
+import rooms
 from automaton import Automaton
 from controllers import Controller
 from program import NO_PROGRAM, Program, Refusal
@@ -175,7 +175,7 @@ def verify(path: str, name: str, machine: Machine, check: Callable[[Simulation],
     with open(path, "rb"):  # where it can't be read, that is an error of its own
         pass
     try:
-        with tempfile.TemporaryDirectory(prefix="ask-") as room:
+        with rooms.room() as room:
             check(Simulation(path, name, machine, room))
         return 0
     except Wrong as wrong:
