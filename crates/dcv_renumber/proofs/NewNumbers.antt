@@ -41,47 +41,41 @@ written_or_was (one ∷ became) (suc place) (suc other) new result there = elim 
   | inr own ↦ inr (ap suc own.0, own.1)
 ]
 
-pub places_more : (new : List ℕ) (from arena : ArenaValue) (old now : List (Option Ref)) (root : Ref) (place : ℕ) (result : Ref) → now ≡ set old place (Some result)
-    → root ≡ Place place → IsNewRef new from arena root result → HoldsPlaces new from arena old → HoldsPlaces new from arena now
-places_more new from arena old now root place result is_set node is holds other ref there = elim (written_or_was old place other result ref (subst (λ became. HasBecome became other ref) is_set there)) [
+pub places_more : (new : List ℕ) (from arena : ArenaValue) (old now : List (Option Ref)) (place : ℕ) (result : Ref) → now ≡ set old place (Some result)
+    → IsNewRef new from arena (Place place) result → HoldsPlaces new from arena old → HoldsPlaces new from arena now
+places_more new from arena old now place result is_set is holds other ref there = elim (written_or_was old place other result ref (subst (λ became. HasBecome became other ref) is_set there)) [
   | inl before ↦ holds other ref before
-  | inr own ↦ subst (λ (one : ℕ × Ref). IsNewRef new from arena (Place one.0) one.1) (λ i. (sym own.0 i, sym own.1 i)) (subst (λ root. IsNewRef new from arena root result) node is)
+  | inr own ↦ subst (λ (one : ℕ × Ref). IsNewRef new from arena (Place one.0) one.1) (λ i. (sym own.0 i, sym own.1 i)) is
 ]
 
 -- ---- the sides of a node
 
-module _ (new : List ℕ) {from : ArenaValue} (is : IsArena from) {root : Ref} {place slot : ℕ} (node : root ≡ Place place) (at : slot ≡ level_of from (Place place)) (lo hi : Ref)
-    (at_place : (letter : List Bool) → value_of from (Place place) letter ≡ cond (get_or letter slot false) (value_of from hi letter) (value_of from lo letter)) where
-  values : (letter : List Bool) → value_of from root letter ≡ cond (get_or letter slot false) (value_of from hi letter) (value_of from lo letter)
-  values letter = ap (λ root. value_of from root letter) node ∙ at_place letter
-
-  level : slot ≡ level_of from root
-  level = at ∙ ap (level_of from) (sym node)
-
+module _ (new : List ℕ) {from : ArenaValue} (is : IsArena from) (place : ℕ) {slot : ℕ} (at : slot ≡ level_of from (Place place)) (lo hi : Ref)
+    (value : (letter : List Bool) → value_of from (Place place) letter ≡ cond (get_or letter slot false) (value_of from hi letter) (value_of from lo letter)) where
   -- at the letters with this value in the slot
-  values_set : (value : Bool) (letter : List Bool) → slot < length letter → value_of from root (set letter slot value) ≡ cond value (value_of from hi (set letter slot value)) (value_of from lo (set letter slot value))
-  values_set value letter inside =
-      values (set letter slot value) ∙ ap (λ side. cond side (value_of from hi (set letter slot value)) (value_of from lo (set letter slot value))) (get_or-set_same letter slot value false inside)
+  value_set : (side : Bool) (letter : List Bool) → slot < length letter → value_of from (Place place) (set letter slot side) ≡ cond side (value_of from hi (set letter slot side)) (value_of from lo (set letter slot side))
+  value_set side letter inside =
+      value (set letter slot side) ∙ ap (λ one. cond one (value_of from hi (set letter slot side)) (value_of from lo (set letter slot side))) (get_or-set_same letter slot side false inside)
 
   module _ (lo_ref : IsRef from lo) (lo_later : slot < level_of from lo) where
-    lo_value : (letter : List Bool) → slot < length letter → value_of from lo letter ≡ value_of from root (set letter slot false)
-    lo_value letter inside = fixed_later from is.reduced lo slot lo_ref lo_later false letter ∙ sym (values_set false letter inside)
+    lo_value : (letter : List Bool) → slot < length letter → value_of from lo letter ≡ value_of from (Place place) (set letter slot false)
+    lo_value letter inside = fixed_later from is.reduced lo slot lo_ref lo_later false letter ∙ sym (value_set false letter inside)
 
-    pub low : FixesSlot (renumbered new from root) (renumbered new from lo) slot false
+    pub low : FixesSlot (renumbered new from (Place place)) (renumbered new from lo) slot false
     low = record { at = λ letter inside. ap (λ number. get_or new number 0) (lo_value letter inside) }
 
     -- at letters without the slot it is false
-    past : (letter : List Bool) → length letter ≤ slot → value_of from root letter ≡ value_of from lo letter
-    past letter short = values letter ∙ (λ i. cond (get_or_past letter slot false short i) (value_of from hi letter) (value_of from lo letter))
+    past : (letter : List Bool) → length letter ≤ slot → value_of from (Place place) letter ≡ value_of from lo letter
+    past letter short = value letter ∙ (λ i. cond (get_or_past letter slot false short i) (value_of from hi letter) (value_of from lo letter))
 
-    inside_covered : (bound slots : ℕ) (letter : List Bool) → ((letter : List Bool) → length letter ≡ slots → value_of from root letter < bound) → length letter ≡ slots → slot < length letter → value_of from lo letter < bound
+    inside_covered : (bound slots : ℕ) (letter : List Bool) → ((letter : List Bool) → length letter ≡ slots → value_of from (Place place) letter < bound) → length letter ≡ slots → slot < length letter → value_of from lo letter < bound
     inside_covered bound slots letter covers size inside =
         subst (λ number. number < bound) (sym (lo_value letter inside)) (covers (set letter slot false) (length-set letter slot false ∙ size))
 
-    outside_covered : (bound slots : ℕ) (letter : List Bool) → ((letter : List Bool) → length letter ≡ slots → value_of from root letter < bound) → length letter ≡ slots → length letter ≤ slot → value_of from lo letter < bound
+    outside_covered : (bound slots : ℕ) (letter : List Bool) → ((letter : List Bool) → length letter ≡ slots → value_of from (Place place) letter < bound) → length letter ≡ slots → length letter ≤ slot → value_of from lo letter < bound
     outside_covered bound slots letter covers size short = subst (λ number. number < bound) (past letter short) (covers letter size)
 
-    pub lo_covered : (bound slots : ℕ) → ((letter : List Bool) → length letter ≡ slots → value_of from root letter < bound) → (letter : List Bool) → length letter ≡ slots → value_of from lo letter < bound
+    pub lo_covered : (bound slots : ℕ) → ((letter : List Bool) → length letter ≡ slots → value_of from (Place place) letter < bound) → (letter : List Bool) → length letter ≡ slots → value_of from lo letter < bound
     lo_covered bound slots covers letter size = elim (cases_order slot (length letter)) [
       | inl equal ↦ outside_covered bound slots letter covers size (omega arith)
       | inr (inl inside) ↦ inside_covered bound slots letter covers size inside
@@ -89,22 +83,22 @@ module _ (new : List ℕ) {from : ArenaValue} (is : IsArena from) {root : Ref} {
     ]
 
     -- where no letter has the slot, the low side is the function
-    pub lo_is_new : (arena : ArenaValue) (result : Ref) → arena.slots ≤ slot → IsNewRef new from arena lo result → IsNewRef new from arena root result
+    pub lo_is_new : (arena : ArenaValue) (result : Ref) → arena.slots ≤ slot → IsNewRef new from arena lo result → IsNewRef new from arena (Place place) result
     lo_is_new arena result outside is_new = record {
       is_ref = is_new.is_ref;
-      level = λ early before within. is_new.level early (omega (arith, level)) within;
+      level = λ early before within. is_new.level early (omega (arith, at)) within;
       value = λ letter size. is_new.value letter size ∙ sym (ap (λ number. get_or new number 0) (past letter (omega arith)));
     }
 
     agrees_past : (slots : ℕ) (front : List Bool) (function : List Bool → ℕ) → slots ≤ slot
-        → AgreesBehind exactly (renumbered new from root) slots front function → AgreesBehind exactly (renumbered new from lo) slots front function
+        → AgreesBehind exactly (renumbered new from (Place place)) slots front function → AgreesBehind exactly (renumbered new from lo) slots front function
     agrees_past slots front function outside agrees rest number size given =
         agrees rest number size (given ∙ sym (ap (λ number. get_or new number 0) (past (front ++ rest) (omega (arith, length-append front rest)))))
 
     -- what was added for the low side is of the function, whether letters have the slot or not
     pub lo_adds : (old now : ArenaValue)
         → ((front : List Bool) (function : List Bool → ℕ) → length front ≤ level_of from lo → length front ≤ old.slots → AgreesBehind exactly (renumbered new from lo) old.slots front function → AddsOnlyNodesOfFunction old now function)
-        → (front : List Bool) (function : List Bool → ℕ) → length front ≤ slot → length front ≤ old.slots → AgreesBehind exactly (renumbered new from root) old.slots front function → AddsOnlyNodesOfFunction old now function
+        → (front : List Bool) (function : List Bool → ℕ) → length front ≤ slot → length front ≤ old.slots → AgreesBehind exactly (renumbered new from (Place place)) old.slots front function → AddsOnlyNodesOfFunction old now function
     lo_adds old now stray front function below within agrees =
         let outside : old.slots ≤ slot → AddsOnlyNodesOfFunction old now function = λ short. stray front function (omega arith) within (agrees_past old.slots front function short agrees) in
         elim (cases_order slot old.slots) [
@@ -116,7 +110,7 @@ module _ (new : List ℕ) {from : ArenaValue} (is : IsArena from) {root : Ref} {
 
     pub lo_full : (limit : ℕ) (old : ArenaValue)
         → ((front : List Bool) (function : List Bool → ℕ) → length front ≤ level_of from lo → length front ≤ old.slots → AgreesBehind exactly (renumbered new from lo) old.slots front function → limit < count_with old function)
-        → (front : List Bool) (function : List Bool → ℕ) → length front ≤ slot → length front ≤ old.slots → AgreesBehind exactly (renumbered new from root) old.slots front function → limit < count_with old function
+        → (front : List Bool) (function : List Bool → ℕ) → length front ≤ slot → length front ≤ old.slots → AgreesBehind exactly (renumbered new from (Place place)) old.slots front function → limit < count_with old function
     lo_full limit old full front function below within agrees =
         let outside : old.slots ≤ slot → limit < count_with old function = λ short. full front function (omega arith) within (agrees_past old.slots front function short agrees) in
         elim (cases_order slot old.slots) [
@@ -127,12 +121,12 @@ module _ (new : List ℕ) {from : ArenaValue} (is : IsArena from) {root : Ref} {
         ]
 
   module _ (hi_ref : IsRef from hi) (hi_later : slot < level_of from hi) where
-    hi_value : (letter : List Bool) → slot < length letter → value_of from hi letter ≡ value_of from root (set letter slot true)
-    hi_value letter inside = fixed_later from is.reduced hi slot hi_ref hi_later true letter ∙ sym (values_set true letter inside)
+    hi_value : (letter : List Bool) → slot < length letter → value_of from hi letter ≡ value_of from (Place place) (set letter slot true)
+    hi_value letter inside = fixed_later from is.reduced hi slot hi_ref hi_later true letter ∙ sym (value_set true letter inside)
 
-    pub high : FixesSlot (renumbered new from root) (renumbered new from hi) slot true
+    pub high : FixesSlot (renumbered new from (Place place)) (renumbered new from hi) slot true
     high = record { at = λ letter inside. ap (λ number. get_or new number 0) (hi_value letter inside) }
 
-    pub hi_covered : (bound slots : ℕ) → slot < slots → ((letter : List Bool) → length letter ≡ slots → value_of from root letter < bound) → (letter : List Bool) → length letter ≡ slots → value_of from hi letter < bound
+    pub hi_covered : (bound slots : ℕ) → slot < slots → ((letter : List Bool) → length letter ≡ slots → value_of from (Place place) letter < bound) → (letter : List Bool) → length letter ≡ slots → value_of from hi letter < bound
     hi_covered bound slots inner covers letter size =
         subst (λ number. number < bound) (sym (hi_value letter (omega arith))) (covers (set letter slot true) (length-set letter slot true ∙ size))
