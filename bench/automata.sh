@@ -1,6 +1,6 @@
 #!/usr/bin/env bash
 # Measures what is done with an automaton's table: `minimise` makes it canonical, `shortest` finds its least accepted word, `separate`
-# lists suffixes that show that it is minimal. Proves and builds `dcv_bench` with rt, runs each task so many times on each table, and tells
+# lists suffixes that show that it is minimal. Builds `dcv_bench` without its proofs, runs each task so many times on each table, and reports
 # the least milliseconds of processor time, how large the result is (states, letters, suffixes), and the most memory of the whole program.
 #
 #   bench/automata.sh            every task
@@ -43,8 +43,8 @@ runs=${RUNS:-3}
 built=$(mktemp -d)
 trap 'rm -rf "$built"' EXIT
 
-(cd "$here/../crates/dcv_bench" && rt run -- minimise chain 1 >"$built/log" 2>&1) || { cat "$built/log"; exit 1; }
-rattle=$here/../crates/dcv_bench/out/dcv_bench
+rattle=$built/rattle
+"$here/unproved.py" "$rattle" dcv_bench
 
 printf '%-9s %-7s %9s %12s %9s\n' task table size milliseconds megabytes
 for task in minimise shortest separate; do

@@ -1,6 +1,6 @@
 #!/usr/bin/env bash
-# Measures the operations on diagrams beside the same in plain C. Proves and builds `dcv_bench` with rt, builds diagrams.c
-# with clang, runs each case so many times in both, and tells the least nanoseconds of processor time that one operation took,
+# Measures the operations on diagrams beside the same in plain C. Builds `dcv_bench` without its proofs, builds diagrams.c
+# with clang, runs each case so many times in both, and reports the least nanoseconds of processor time that one operation took,
 # and their quotient. The numbers of the results must be the same.
 #
 #   bench/diagrams.sh            every case
@@ -55,8 +55,8 @@ built=$(mktemp -d)
 trap 'rm -rf "$built"' EXIT
 
 clang -O2 -Wall -Wextra -o "$built/c" "$here/diagrams.c"
-(cd "$here/../crates/dcv_bench" && rt run -- multiplier 6 1 >"$built/log" 2>&1) || { cat "$built/log"; exit 1; }
-rattle=$here/../crates/dcv_bench/out/dcv_bench
+rattle=$built/rattle
+"$here/unproved.py" "$rattle" dcv_bench
 
 # The least time of an operation, and the size of its result.
 least() {

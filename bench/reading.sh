@@ -1,5 +1,5 @@
 #!/usr/bin/env bash
-# Measures the reader of automaton texts. Proves and builds `dcv_bench` with rt, reads a text of each size so many times, and tells the least
+# Measures the reader of automaton texts. Builds `dcv_bench` without its proofs, reads a text of each size so many times, and reports the least
 # milliseconds of processor time and the most memory of the whole program, the text itself included.
 #
 #   bench/reading.sh
@@ -17,8 +17,8 @@ runs=${RUNS:-3}
 built=$(mktemp -d)
 trap 'rm -rf "$built"' EXIT
 
-(cd "$here/../crates/dcv_bench" && rt run -- read 10 1 >"$built/log" 2>&1) || { cat "$built/log"; exit 1; }
-rattle=$here/../crates/dcv_bench/out/dcv_bench
+rattle=$built/rattle
+"$here/unproved.py" "$rattle" dcv_bench
 
 printf '%10s %12s %12s %9s\n' suffixes bytes milliseconds megabytes
 for suffixes in 50000 500000 5000000; do

@@ -39,7 +39,7 @@ def sources():
     names = subprocess.run(["git", "ls-files", "crates/*/src/*.rt"], cwd=ROOT, capture_output=True, text=True).stdout.split()
     for name in names:
         crate = name.split("/")[1]
-        if not crate.endswith("_tests") and crate not in ("dcv_tables", "dcv_bench", "dcv_rows", "dcv_library"):
+        if not crate.endswith("_tests") and crate not in ("dcv_tables", "dcv_rows"):
             yield name.removeprefix("crates/")
 
 

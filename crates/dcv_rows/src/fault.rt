@@ -14,4 +14,6 @@ pub(crate) enum Fault {
     Memory(#[from] AllocError),
     #[error("{0}")]
     System(#[from] io::Error),
+    #[error("{0}")]
+    Library(anyhow::Error),
 }

@@ -1,9 +1,11 @@
 //! Tests as data: rows of words, files and the expected outcome of a run, which are run over files and streams in memory,
 //! or on the system. For each file of rows that is named it prints the rows that do not hold, and how many do. The head of `data/runs.rows` says how a row is written.
+//! For the word `library` it prints what the examples of the page on the crates as a library give.
 #![tactic(auto)]
 
 mod fault;
 mod judging;
+mod library;
 mod outcome;
 mod pattern;
 mod row;
@@ -30,13 +32,22 @@ fn main(rt: HostRuntime) -> ExitCode {
         return ExitCode::FAILURE;
     };
     for name in arguments.skip(1) {
-        if let Err(fault) = judge_file(&rt, name.as_str()) {
+        let done = match name.as_str() {
+            "library" => print_library(&rt),
+            name => judge_file(&rt, name),
+        };
+        if let Err(fault) = done {
             // If this cannot be written either, the status alone says it.
             let _ = println!(rt; "{}: {fault}", name.as_str());
             return ExitCode::FAILURE;
         }
     }
     ExitCode::SUCCESS
+}
+
+// Prints what the examples of the library give.
+fn print_library(rt: &HostRuntime) -> Result<(), Fault> {
+    library::print_examples(rt).map_err(Fault::Library)
 }
 
 // Judges the rows of the file of this name.

@@ -3,7 +3,7 @@ ghost use Rattle.std.specs.Prelude.{◌≡◌, length, IfOk};
 ghost use Rattle.dcv_automaton_file.specs.File.{texts_of};
 ghost use Rattle.dcv_automaton_text.specs.Rules.{AreNames};
 
-use crate::automata::auto_of;
+use crate::library::automata::auto_of;
 use anyhow::{Result, bail};
 use dcv_c::put_observer;
 use dcv_c_read::read;

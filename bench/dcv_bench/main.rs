@@ -1,12 +1,11 @@
-//! Measures the operations on diagrams: `dcv_bench CASE SLOTS TIMES` does what a case says so many times, and tells how
-//! large its result is. With a fourth word, `timed`, it also tells the nanoseconds of processor time that each time took.
-//! `dcv_bench EXPLORATION SIZE TIMES` does the same with explorations of that size, and tells how many states there are, and
-//! `dcv_bench TASK TABLE TIMES` with automata. `dcv_bench read SUFFIXES TIMES` reads the text of an automaton with so many suffixes, and tells how
+//! Measures the operations on diagrams: `dcv_bench CASE SLOTS TIMES` does what a case says so many times, and reports how
+//! large its result is. With a fourth word, `timed`, it also reports the nanoseconds of processor time that each time took.
+//! `dcv_bench EXPLORATION SIZE TIMES` does the same with explorations of that size, and reports how many states there are, and
+//! `dcv_bench TASK TABLE TIMES` with automata. `dcv_bench read SUFFIXES TIMES` reads the text of an automaton with so many suffixes, and reports how
 //! many bytes it has.
 //!
-//! Nothing here is promised by a contract but that it ends. The scripts of `bench/` run each case: `diagrams.sh`, `explorations.sh`,
-//! `automata.sh` and `reading.sh`.
-#![tactic(auto)]
+//! It is no crate of the gate: `bench/unproved.py OUTPUT dcv_bench` builds it without proofs beside the crates that it measures. The scripts of
+//! `bench/` run each case: `diagrams.sh`, `explorations.sh`, `automata.sh` and `reading.sh`.
 
 mod automata;
 mod cases;
@@ -43,7 +42,7 @@ fn main(rt: HostRuntime) -> Result<()> {
     Ok(())
 }
 
-// Does what the name says so many times, and tells how large the result is, and the processor time of all times.
+// Does what the name says so many times, and reports how large the result is, and the processor time of all times.
 fn measure<R: CpuClock>(
     rt: &R,
     alloc: Global,

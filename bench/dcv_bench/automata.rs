@@ -1,7 +1,4 @@
 // What is measured of automata: a table is minimised, its least accepted word is found, or suffixes that show that it is minimal.
-ghost use Rattle.std.specs.Prelude.{◌≤◌, ◌<◌, ◌+◌, IfOk};
-ghost use Rattle.dcv_arena.specs.Arena.{IsArena, KeepsRefs};
-ghost use Rattle.dcv_tables.specs.Below.{IsBelow};
 
 use anyhow::Result;
 use dcv_arena::{Arena, Ref};
@@ -104,9 +101,7 @@ impl Table {
     }
 
     // How many variables its letters have.
-    fn slots(self) -> u8
-        ensures { result ≤ 32 }
-    {
+    fn slots(self) -> u8 {
         match self {
             Table::Chain => 0,
             Table::Count => 1,
@@ -117,9 +112,7 @@ impl Table {
     }
 
     // How many states it has.
-    fn states(self) -> u32
-        ensures { 0 < result }
-    {
+    fn states(self) -> u32 {
         match self {
             Table::Chain | Table::Count => 10_002,
             Table::Grid => SIDE * SIDE,
@@ -164,13 +157,7 @@ impl Table {
     }
 
     // The row of a state.
-    fn row(self, arena: &mut Arena, state: u32, bound: u32) -> Result<Ref>
-        requires arena { IsArena arena.old }
-        requires bound { 0 < bound }
-        ensures below { IfOk result (IsBelow arena.new bound 0) }
-        ensures kept { KeepsRefs arena.old arena.new }
-        ensures arena { IsArena arena.new }
-    {
+    fn row(self, arena: &mut Arena, state: u32, bound: u32) -> Result<Ref> {
         let last = bound - 1;
         if matches!(self, Table::Parity) {
             let (even, odd) = (state.min(last), state.saturating_add(1).min(last));

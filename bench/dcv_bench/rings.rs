@@ -1,5 +1,4 @@
 // A machine whose states stand in a ring, of any size: what the measured explorations are made of.
-ghost use Rattle.std.specs.Prelude.{◌≡◌, ◌≤◌, ◌<◌, ◌%◌, length};
 
 use crate::functions::Function;
 use anyhow::bail;
@@ -15,8 +14,6 @@ pub(crate) struct Ring {
     place: u32,
     size: u32,
     doubles: bool,
-    ghost within: { place < length arena.nodes },
-    ghost some: { 0 < size },
 }
 
 impl Ring {
@@ -27,9 +24,7 @@ impl Ring {
         function: Function,
         size: u32,
         doubles: bool,
-    ) -> anyhow::Result<Ring>
-        requires { slots ≤ 32 }
-    {
+    ) -> anyhow::Result<Ring> {
         let mut arena = Arena::new(alloc, slots, 1000);
         let Ref::Place(place) = function.build(&mut arena, 0, 0)? else {
             bail!("the function is one number");
@@ -47,10 +42,7 @@ impl Ring {
 }
 
 // Where so many steps lead in a ring of this size.
-fn around(steps: u64, size: u32) -> u32
-    requires { 0 < size }
-    ensures { result ≡ steps % size }
-{
+fn around(steps: u64, size: u32) -> u32 {
     (steps % u64::from(size)) as u32
 }
 

@@ -1,5 +1,4 @@
 // Explorations that are measured: a counter, products, a chop and a quantifier over rings of states, a case for each word.
-ghost use Rattle.std.specs.Prelude.{◌≡◌, ◌≤◌, ◌<◌};
 
 use crate::functions::Function;
 use crate::rings::Ring;

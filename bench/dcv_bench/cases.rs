@@ -1,6 +1,4 @@
 // What is measured, a case for each word.
-ghost use Rattle.std.specs.Prelude.{◌≡◌, ◌≤◌, ◌<◌, ℕ, Bool, List, length, IfOk};
-ghost use Rattle.dcv_arena.specs.Arena.{IsRef, KeepsRefs, value_of};
 
 use crate::functions::{Function, parity};
 use dcv_apply::{ApplyFault, Memo, Merge, MergeFault, USUAL_CAPACITY, apply};
@@ -47,11 +45,7 @@ impl Case {
 
 impl Case {
     // The two functions that are worked with.
-    fn functions(self, arena: &mut Arena) -> Result<(Ref, Ref), ArenaFault>
-        ensures one { IfOk result (λ roots. IsRef arena.new roots.0) }
-        ensures other { IfOk result (λ roots. IsRef arena.new roots.1) }
-        ensures bound { IfOk result (λ roots. (letter : List Bool) → value_of arena.new roots.0 letter < 2) }
-    {
+    fn functions(self, arena: &mut Arena) -> Result<(Ref, Ref), ArenaFault> {
         match self {
             Case::Parity => parities(arena),
             Case::Build | Case::Random => built(
@@ -79,11 +73,7 @@ impl Case {
         arena: &Arena,
         one: Ref,
         other: Ref,
-    ) -> Result<usize, ApplyFault>
-        requires one { IsRef arena.now one }
-        requires other { IsRef arena.now other }
-        requires bound { (letter : List Bool) → value_of arena.now one letter < 2 }
-    {
+    ) -> Result<usize, ApplyFault> {
         match self {
             Case::Build => rebuilt(alloc, arena.slots()),
             Case::Random | Case::Multiplier | Case::Parity => merged(alloc, arena, one, other),
@@ -113,43 +103,28 @@ pub(crate) fn measure<R: CpuClock>(
 }
 
 // The parity of all slots, and that of each other slot.
-fn parities(arena: &mut Arena) -> Result<(Ref, Ref), ArenaFault>
-    ensures one { IfOk result (λ roots. IsRef arena.new roots.0) }
-    ensures other { IfOk result (λ roots. IsRef arena.new roots.1) }
-    ensures bound { IfOk result (λ roots. (letter : List Bool) → value_of arena.new roots.0 letter < 2) }
-{
+fn parities(arena: &mut Arena) -> Result<(Ref, Ref), ArenaFault> {
     let one = parity(arena, 1)?;
     let other = parity(arena, 2)?;
     Ok((one, other))
 }
 
 // Two functions that are built from their numbers, where their letters are no more than can be gone through.
-fn built(arena: &mut Arena, first: Function, second: Function) -> Result<(Ref, Ref), ArenaFault>
-    ensures one { IfOk result (λ roots. IsRef arena.new roots.0) }
-    ensures other { IfOk result (λ roots. IsRef arena.new roots.1) }
-    ensures bound { IfOk result (λ roots. (letter : List Bool) → value_of arena.new roots.0 letter < 2) }
-{
-    // for the prover: of an arena that was asked it is known what is true of every arena.
-    let _ = arena.slots();
+fn built(arena: &mut Arena, first: Function, second: Function) -> Result<(Ref, Ref), ArenaFault> {
     let one = first.build(arena, 0, 0)?;
     let other = second.build(arena, 0, 0)?;
     Ok((one, other))
 }
 
 // The nodes of a random function.
-fn rebuilt(alloc: Global, slots: u8) -> Result<usize, ApplyFault>
-    requires { slots ≤ 32 }
-{
+fn rebuilt(alloc: Global, slots: u8) -> Result<usize, ApplyFault> {
     let mut arena = Arena::new(alloc, slots, LIMIT);
     Function::Random { seed: 3 << 40 }.build(&mut arena, 0, 0)?;
     Ok(arena.len() as usize)
 }
 
 // The nodes of what two functions are merged into.
-fn merged(alloc: Global, arena: &Arena, one: Ref, other: Ref) -> Result<usize, ApplyFault>
-    requires one { IsRef arena.now one }
-    requires other { IsRef arena.now other }
-{
+fn merged(alloc: Global, arena: &Arena, one: Ref, other: Ref) -> Result<usize, ApplyFault> {
     let mut results = Arena::new(alloc, arena.slots(), LIMIT);
     let mut memo = Memo::new(alloc, USUAL_CAPACITY)?;
     let operands = [(0, one), (0, other)];
@@ -167,10 +142,7 @@ fn merged(alloc: Global, arena: &Arena, one: Ref, other: Ref) -> Result<usize, A
 }
 
 // The nodes of a function that gets other numbers.
-fn renumbered(alloc: Global, arena: &Arena, root: Ref) -> Result<usize, ApplyFault>
-    requires root { IsRef arena.now root }
-    requires bound { (letter : List Bool) → value_of arena.now root letter < 2 }
-{
+fn renumbered(alloc: Global, arena: &Arena, root: Ref) -> Result<usize, ApplyFault> {
     let mut results = Arena::new(alloc, arena.slots(), LIMIT);
     remap(alloc, &mut results, arena, root, &[7, 5])?;
     Ok(results.len() as usize)

@@ -1,7 +1,4 @@
 // The functions that are measured, or that measured machines go on by: random ones, bits of a product, and parities.
-ghost use Rattle.std.specs.Prelude.{◌≤◌, ◌<◌, ◌+◌, ℕ, Bool, List, IfOk};
-ghost use Rattle.dcv_arena.specs.Arena.{IsArena, IsRef, KeepsRefs, value_of};
-ghost use Rattle.dcv_tables.specs.Below.{IsBelow};
 
 use dcv_arena::{Arena, ArenaFault, Ref};
 
@@ -20,9 +17,7 @@ pub(crate) enum Function {
 
 impl Function {
     // The number at a letter.
-    fn number(self, slots: u8, letter: u32) -> u32
-        ensures { result < 2 }
-    {
+    fn number(self, slots: u8, letter: u32) -> u32 {
         let bits = match self {
             Function::Random { seed } => mixed(seed ^ u64::from(letter)) >> 63,
             Function::Product { bit } => {
@@ -37,13 +32,7 @@ impl Function {
     }
 
     // The diagram of the function after the slots before `slot`, where the letter begins with these values.
-    pub(crate) fn build(self, arena: &mut Arena, slot: u8, front: u32) -> Result<Ref, ArenaFault>
-        requires slot { slot ≤ arena.old.slots }
-        requires arena { IsArena arena.old }
-        ensures below { IfOk result (IsBelow arena.new 2 slot) }
-        ensures kept { KeepsRefs arena.old arena.new }
-        ensures arena { IsArena arena.new }
-    {
+    pub(crate) fn build(self, arena: &mut Arena, slot: u8, front: u32) -> Result<Ref, ArenaFault> {
         if slot == arena.slots() {
             return Ok(arena.leaf(self.number(slot, front)));
         }
@@ -69,10 +58,6 @@ fn mixed(seed: u64) -> u64 {
 }
 
 // Whether an odd number of the slots are true, of every slot or of each so many.
-pub(crate) fn parity(arena: &mut Arena, each: u8) -> Result<Ref, ArenaFault>
-    ensures kept { KeepsRefs arena.old arena.new }
-    ensures is_ref { IfOk result (IsRef arena.new) }
-    ensures bound { IfOk result (λ root. (letter : List Bool) → value_of arena.new root letter < 2) }
-{
+pub(crate) fn parity(arena: &mut Arena, each: u8) -> Result<Ref, ArenaFault> {
     dcv_tables::parity(arena, each, 0, 1, 2)
 }
