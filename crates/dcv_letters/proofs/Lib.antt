@@ -1,1 +1,2 @@
 mod FirstLetters
+pub mod LetterOrder

@@ -1,7 +1,7 @@
 pub mod Answers
 mod LeastStuck
 mod Onward
-mod Prefixes
+pub mod Prefixes
 mod Sinks
 pub mod SomeStuck
 mod StuckWords
