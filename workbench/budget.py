@@ -3,7 +3,8 @@ import re
 from dataclasses import replace
 from typing import Iterator, List, Optional, Tuple
 
-from language import LISTS, Fault, File, Tree, goal_text, natural, parse, tokens
+from language import Fault, File, Tree, goal_text, natural, parse, tokens
+from words import LISTS
 from names import expand, free_names
 from program import Program, Refusal
 

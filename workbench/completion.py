@@ -7,7 +7,7 @@ import library
 import repairs
 from documents import Document
 from hovering import MEANINGS
-from language import RESERVED
+from words import RESERVED
 from navigation import KINDS
 from program import Program
 from protocol import Message

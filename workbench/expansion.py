@@ -9,7 +9,8 @@ from itertools import chain, count
 from typing import Dict, Iterable, Iterator, List, NamedTuple, Optional, Sequence, Tuple, Union
 
 import limits
-from language import RESERVED, Token
+from language import Token
+from words import RESERVED
 from shapes import Tokens, is_name, is_number
 from sources import Definition, Source
 

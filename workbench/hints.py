@@ -4,15 +4,16 @@ from typing import Callable, List, Sequence, Tuple
 
 import limits
 from spots import Spot
+from words import ANY_COUNT, ANY_MEASURE, LENGTH, MEASURES, MOMENTS
 
-FORMULAS = ("slen", "scount", "sdur", "pt", "ext", "<", "[", "[[", "<>", "[]", "^")  # what begins or joins formulas alone
+FORMULAS = (*MEASURES, *MOMENTS, "<", "[", "[[", "<>", "[]", "^")  # what begins or joins formulas alone
 
 # Hints at a syntax fault: each is asked in turn of the text after it (`rest`), the token there (`word`) and the text before it (`ahead`).
 SYNTAX: Sequence[Tuple[Callable[[str, str, str], object], str]] = (
     (lambda rest, word, ahead: re.match(r'const\s+\w+\s*=|use\s+"', rest), "const and use are for ./ask expand, which writes a file of the language."),
     (lambda rest, word, ahead: re.search(r"\b[GFX]\s*\([^()]*$|\b[GFX]\s+\S*$", ahead) or word in ("U", "W", "R", "S"),
      'There are no G, F, X and U. "Always p" is [[p]], "at some time q" is <><q>; ./ask patterns has what is said of p, q and their order.'),
-    (lambda rest, word, ahead: word.isdigit() and re.search(r"\b\w+\s*\((.*,)?$", ahead) and not re.search(r"\b(slen|scount|sdur|infer|as)\s*\($", ahead),
+    (lambda rest, word, ahead: word.isdigit() and re.search(r"\b\w+\s*\((.*,)?$", ahead) and not re.search(rf"\b({ANY_MEASURE}|infer|as)\s*\($", ahead),
      "Arguments are propositions. In a source of ./ask expand they may be numbers, where the macro has them in the place of one."),
     (lambda rest, word, ahead: word in ("infer", "define", "prop") and re.search(r"\bvar\s[^;]*,$", ahead),
      "After the last name stands a ; and no comma: var p, q;"),
@@ -20,16 +21,16 @@ SYNTAX: Sequence[Tuple[Callable[[str, str, str], object], str]] = (
     (lambda rest, word, ahead: word in "+-" and not re.search(r"(^|\W)(infer|as)$|[(\]>})]$", ahead),
      "There is no arithmetic (./ask expand writes out sums), and no - in names: write _ there. In brackets -p is p one instant earlier and +p one later, as in [[-p]]."),
     (lambda rest, word, ahead: re.search(r"infer(\W.*)?;$", ahead, re.A), "A file has one goal, and nothing after it."),
-    (lambda rest, word, ahead: word in ("=>", "=") and re.search(r"\b(slen|(scount|sdur)\s+\S+)$", ahead) and rest[:2] in ("=>", "=<"),
+    (lambda rest, word, ahead: word in ("=>", "=") and re.search(rf"\b({LENGTH}|({ANY_COUNT})\s+\S+)$", ahead) and rest[:2] in ("=>", "=<"),
      'The relation "at least" is written >=, and "at most" <=.'),
-    (lambda rest, word, ahead: word in ("=>",) and re.search(r"(scount|sdur)\s+[^<>=]*$|slen$", ahead), 'The relation "at least" is written >=.'),
+    (lambda rest, word, ahead: word in ("=>",) and re.search(rf"({ANY_COUNT})\s+[^<>=]*$|{LENGTH}$", ahead), 'The relation "at least" is written >=.'),
     (lambda rest, word, ahead: rest.startswith("!=") or word == "=" and ahead.endswith("!"), "There is no !=. Write !(slen = 3), for example."),
-    (lambda rest, word, ahead: word in ("=", ">", "<") and re.search(r"\b(slen|scount|sdur)\b[^<>=]*[=<>]$", ahead), "Relations are =, <, <=, > and >=."),
-    (lambda rest, word, ahead: word in ("[", "(", "[[", "<") and re.search(r"\b(slen|scount|sdur)$", ahead),
+    (lambda rest, word, ahead: word in ("=", ">", "<") and re.search(rf"\b({ANY_MEASURE})\b[^<>=]*[=<>]$", ahead), "Relations are =, <, <=, > and >=."),
+    (lambda rest, word, ahead: word in ("[", "(", "[[", "<") and re.search(rf"\b({ANY_MEASURE})$", ahead),
      "A count is written scount p >= 2, and slen >= 2 has no proposition."),
-    (lambda rest, word, ahead: re.search(r"(scount|sdur)[ \t]+[A-Za-z0-9_!]+$", ahead),
+    (lambda rest, word, ahead: re.search(rf"({ANY_COUNT})[ \t]+[A-Za-z0-9_!]+$", ahead),
      "A proposition with operators needs parentheses there: scount (p && q) >= 2."),
-    (lambda rest, word, ahead: re.search(r"(slen|scount\s.*|sdur\s.*)(<|>|=)$", ahead) and word[:1].isalpha(),
+    (lambda rest, word, ahead: re.search(rf"({LENGTH}|({ANY_COUNT})\s.*)(<|>|=)$", ahead) and word[:1].isalpha(),
      "A count is compared with a number alone; ./ask expand writes out constants and sums."),
     (lambda rest, word, ahead: re.search(r"(\]|\}\}|>|\)|\bpt|\bext|\btrue|\bfalse|[0-9])$", ahead) and word in ("[", "[[", "<", "{{", "(", "[]", "<>", "!"),
      "Between two formulas stands an operator: D ^ E is first D and then E, and D && E is both on the same interval."),

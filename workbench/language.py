@@ -9,22 +9,17 @@ from dataclasses import dataclass, field
 from typing import Any, Callable, Dict, Iterator, List, NamedTuple, Sequence, Tuple, TypeVar, Union
 
 import limits
+from words import BRACKETS, CONSTANTS, COUNTS, LISTS, MEASURES, MOMENTS, PREFIXES, RELATIONS, RESERVED
 
 sys.setrecursionlimit(100_000)
 
-MOST_BYTES, MOST_TEXT = limits.FILE_BYTES, 134_217_728  # of a formula file; of the text of an observer or of an automaton
+MOST_BYTES, MOST_TEXT = limits.FILE_BYTES, limits.TEXT_BYTES
 Part = TypeVar("Part")
 
-RESERVED = "var define prop as infer ex all true false pt ext slen scount sdur".split()
-RELATIONS = ("=", "<", "<=", ">", ">=")
 TOKEN = re.compile(
     r"(?P<blank>[ \t\r\n]+|//[^\n]*)|[A-Za-z][A-Za-z0-9_]*|[0-9]+"
     r"|<=>|=>|\|\||&&|\[\[|\]\]|\{\{|\}\}|<=|>=|<>|\[\]|[()\[\],;.!^*=<>+-]")
 
-# The operators of lists, the signs before an operand, and the brackets of each kind.
-LISTS = {"iff": "<=>", "or": "||", "and": "&&", "chop": "^", "p_iff": "<=>", "p_or": "||", "p_and": "&&"}
-PREFIXES = {"not": "!", "diamond": "<>", "box": "[]", "p_not": "!", "prior": "-", "next": "+"}
-BRACKETS = {"point": ("<", ">"), "run": ("[", "]"), "every": ("[[", "]]"), "unit": ("{{", "}}")}
 PROPOSITIONS = {"name", "p_true", "p_false", "p_not", "prior", "next", "p_and", "p_or", "p_implies", "p_iff"}
 
 
@@ -250,11 +245,11 @@ class _Parser:
         return inner
 
     def atom(self) -> Tree:
-        first, word = self.at, self.has("(", "pt", "ext", "true", "false", "slen", "scount", "sdur")
+        first, word = self.at, self.has("(", *MOMENTS, *CONSTANTS, *MEASURES)
         if word == "(":
             return self.before(self.formula, ")")
-        if word in ("slen", "scount", "sdur"):
-            parts: Sequence[Tree] = () if word == "slen" else (self.p_prefix(),)
+        if word in MEASURES:
+            parts: Sequence[Tree] = (self.p_prefix(),) if word in COUNTS else ()
             value = self.take(*RELATIONS), natural(self.word("a number", lambda word: word.isascii() and word.isdigit()))
             return self.tree(first, word, parts, value)
         kind = next((kind for kind, (opening, _) in BRACKETS.items() if self.has(opening)), None)
@@ -291,7 +286,7 @@ def to_text(tree: Tree) -> str:
         return f"{kind} {value}. {to_text(parts[0])}"
     if kind in ("name", "call"):
         return f"{value}({', '.join(map(to_text, parts))})" if parts else str(value)
-    if kind in ("slen", "scount", "sdur"):
+    if kind in MEASURES:
         return " ".join([kind, *(operand(part, 6) for part in parts), value[0], str(value[1])])
     return kind.replace("p_", "")
 

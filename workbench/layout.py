@@ -7,8 +7,10 @@ from typing import Dict, List, Optional, Sequence, Set
 
 from language import Token
 from shapes import Tokens, is_name, is_number
+from words import BRACKETS, LENGTH, MEASURES
 
-OPENING, CLOSING = ("(", "[", "[[", "{{"), (")", "]", "]]", "}}", ",", ";", ".", "*")
+OPENING = ("(", *(opening for opening, _ in BRACKETS.values() if opening != "<"))  # < is a relation too
+CLOSING = (")", *(closing for _, closing in BRACKETS.values() if closing != ">"), ",", ";", ".", "*")
 PREFIX = ("!", "<>", "[]", "-", "+")
 HEADS = ("var", "define", "prop", "infer", "const", "use")
 
@@ -17,12 +19,12 @@ def operators(tokens: Sequence[Token]) -> Set[int]:
     """The numbers of the tokens of which the text alone does not say that they are between two others: the relations of slen, scount and
     sdur, of which < and > are brackets elsewhere, and the + and - of sums."""
     found = {at for at, token in enumerate(tokens) if at and token.text in ("+", "-") and (is_name(tokens[at - 1].text) or is_number(tokens[at - 1].text))}
-    return found | {relation_after(tokens, at) for at, token in enumerate(tokens) if token.text in ("slen", "scount", "sdur")}
+    return found | {relation_after(tokens, at) for at, token in enumerate(tokens) if token.text in MEASURES}
 
 
 def relation_after(tokens: Sequence[Token], at: int) -> int:
     """The number of the relation of a measure: after slen at once, and else after its operand, a name, a call or a parenthesis."""
-    if tokens[at].text == "slen":
+    if tokens[at].text == LENGTH:
         return at + 1
     first = next((place for place in range(at + 1, len(tokens)) if tokens[place].text not in PREFIX), len(tokens))
     depth = 0

@@ -8,6 +8,7 @@ NUMBER = 9_999
 NAME = 24  # characters
 NESTED = 500  # tokens ( ! <> [] ex all => * - + one inside another, in one definition or in the goal
 FILE_BYTES = 262_144
+TEXT_BYTES = 134_217_728  # of the text of an observer or of an automaton
 GOAL_NODES = 65_536  # of the goal with each macro in the place of its call
 GOAL_DEPTH = 512
 STATES, DEFAULT_STATES = 32_000, 30_000  # of a step

@@ -3,7 +3,7 @@ import re
 from typing import Iterable, Iterator, Optional, Sequence
 
 from glossary import declared
-from language import RESERVED
+from words import RESERVED
 from pictures import GAP, HEAD, HIGH, Behaviour, escaped, rows_svg
 from shapes import TOKEN
 from waves import in_line, instants

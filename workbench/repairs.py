@@ -9,7 +9,8 @@ import re
 from typing import Callable, Dict, Iterator, List, NamedTuple, Sequence, Tuple, Union
 
 import limits
-from language import RELATIONS, RESERVED, TOKEN, Token, tokens_before
+from language import TOKEN, Token, tokens_before
+from words import BRACKETS, RELATIONS, RESERVED
 from program import Fault, Program
 from spots import shown
 
@@ -71,7 +72,7 @@ def may_stand(program: Program, text: str, place: int) -> List[str]:
     """The tokens that may stand at a place that no token before it is a fault of."""
     front = text[:place] + "\n"
     found = []
-    for token in [NAME, NUMBER] + RESERVED + MARKS:
+    for token in (NAME, NUMBER, *RESERVED, *MARKS):
         written = {NAME: "x", NUMBER: "1"}.get(token, token)
         fault = program.fault(front + written + "\n$")
         if fault is None or (fault.kind, fault.place) not in (("syntax", place + 1), ("nest", place + 1)):
@@ -214,7 +215,7 @@ def _name_changes(text: str, fault: Fault) -> List[Repair]:
         call = match.group()
         for opening, closing in (("[[", "]]"), ("<><", ">")):
             found.append(Repair(f"write {opening}{call}{closing} for {call}", "", text[:fault.place] + opening + call + closing + text[end:]))
-        for opening, closing in (("[[", "]]"), ("[", "]"), ("<", ">"), ("{{", "}}")):
+        for opening, closing in sorted(BRACKETS.values(), key=lambda pair: -len(pair[0])):
             front, rest = text[:fault.place].rstrip(), text[end:].lstrip()
             if front.endswith(opening) and rest.startswith(closing):
                 bare = front[:-len(opening)] + call + rest[len(closing):]

@@ -16,6 +16,7 @@ from program import Program
 from questions import THREADS, Difference, Pair, Requirement, differing
 from shapes import MOST
 from vacuity import Idle, idle
+from words import MEASURES
 
 MOST_WISHES = 14  # with more of them the limits of an example are lower
 
@@ -113,7 +114,7 @@ def neighbours(requirement: Requirement) -> Iterator[Neighbour]:
         called = f"{requirement.line(tree)}: {requirement.part(tree)}"
         if not requirement.is_own(tree):
             continue
-        if tree.kind in ("slen", "scount", "sdur"):
+        if tree.kind in MEASURES:
             digits = len(requirement.text[start:end]) - len(requirement.text[start:end].rstrip("0123456789"))
             for number in (tree.value[1] - 1, tree.value[1] + 1):
                 if 0 <= number <= MOST:

@@ -3,10 +3,11 @@ import re
 from typing import Dict, List, Mapping, Optional, Set, Tuple
 
 import language
-from language import RELATIONS, RESERVED, Token, natural
+from language import Token, natural
+from words import COUNTS, MEASURES, RELATIONS, RESERVED
 
 TOKEN = re.compile(language.TOKEN.pattern + r'|"[^"\n]*"')
-MOST = 9_999
+MOST = limits.NUMBER
 
 
 class SourceFault(Exception):
@@ -111,8 +112,8 @@ class Tokens:
         """Where numbers stand after slen, scount and sdur: the first token of each, and the end."""
         found = {}
         for at in range(first, last):
-            if self.word(at) in ("slen", "scount", "sdur"):
-                relation = at + 1 if self.word(at) == "slen" else self.operand_end(at + 1, last)
+            if self.word(at) in MEASURES:
+                relation = self.operand_end(at + 1, last) if self.word(at) in COUNTS else at + 1
                 if self.word(relation) in RELATIONS and re.match(r"\w", self.word(relation + 1) or "?"):
                     end = relation + 2
                     while self.word(end) in ("+", "-") and re.match(r"\w", self.word(end + 1) or "?"):

@@ -5,6 +5,7 @@ import limits
 from language import File, Tree, goal_text, to_text
 from names import expand
 from questions import Occurrence, Requirement
+from words import COUNTS
 
 CONSTANTS = ("true", "false", "p_true", "p_false")
 
@@ -53,7 +54,7 @@ def signs_below(tree: Tree, signs: FrozenSet[int]) -> List[FrozenSet[int]]:
         return [turned, signs]
     if kind in ("iff", "call", "name"):
         return [BOTH] * len(tree.parts)
-    if kind in ("scount", "sdur"):
+    if kind in COUNTS:
         return [BOTH if tree.value[0] == "=" else turned if tree.value[0] in ("<", "<=") else signs]
     return [signs] * len(tree.parts)
 

@@ -5,7 +5,7 @@ import re
 import subprocess
 import unittest
 
-from language import RESERVED
+from words import RESERVED
 from support import PROGRAM, ROOT, WithFolder, needs_program, needs_tool
 
 EDITORS = os.path.join(ROOT, "editors")

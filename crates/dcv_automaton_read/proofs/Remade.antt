@@ -21,8 +21,6 @@ use Rattle.dcv_automaton_read.specs.declared.file.Row.{Row}
 use Rattle.dcv_language.specs.declared.count.Count.{Count}
 use Rattle.dcv_language.specs.declared.certificate.Access.{Access as ReadAccess}
 use Rattle.dcv_language.specs.declared.certificate.Suffix.{Suffix as ReadSuffix}
-use Rattle.dcv_language.specs.declared.child.Child.{Child}
-use Rattle.dcv_language.specs.declared.child.Child.TheVariants.{State, Node as AtNode}
 use Rattle.dcv_automaton_read.specs.File.{access_from, suffix_from, node_line, state_line, access_line, suffix_line, step_line, step_part, file_from, row_of, count_of, counts_of, IsNarrow, IsNarrowSuffix, IsRead, IsKept}
 use Rattle.dcv_automaton_read.specs.Parts.{judged_lines, judged_step_lines}
 use Rattle.dcv_automaton_read.specs.Seen.{node_of, AreNodesOf}

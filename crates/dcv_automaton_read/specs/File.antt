@@ -19,8 +19,6 @@ use Rattle.dcv_automaton_lines.specs.declared.lines.StateLine.{StateLine as Code
 use Rattle.dcv_automaton_lines.specs.declared.lines.StepLine.{StepLine as CodeStepLine}
 use Rattle.dcv_automaton_lines.specs.declared.lines.StepPart.{StepPart as CodeStepPart}
 use Rattle.dcv_automaton_read.specs.Seen.{node_of}
-use Rattle.dcv_language.specs.declared.child.Child.{Child}
-use Rattle.dcv_language.specs.declared.child.Child.TheVariants.{State, Node as AtNode}
 use Rattle.dcv_automaton_read.specs.declared.nodes.Node.{Node}
 use Rattle.dcv_automaton_read.specs.declared.file.Row.{Row}
 use Rattle.dcv_language.specs.declared.count.Count.{Count}

@@ -7,7 +7,7 @@
 --     IsAdded nodes node kept more    whether a node may be added, and the nodes with it where it may
 --     AreNodesOf file count nodes     these are the nodes of so many of the first lines, and their variables are listed
 --     IsJudgedText file answer        the answer is the table fault, or there is none
-use Rattle.std.specs.Prelude.{◌≡◌, ℕ, Bool, true, false, not, ◌&&◌, nat_eq, nat_lt, List, [], ◌∷◌, ◌++◌, length, map, take, slice_index_or, Result, Ok, Err}
+use Rattle.std.specs.Prelude.{◌≡◌, ℕ, Bool, true, not, ◌&&◌, nat_eq, nat_lt, List, [], ◌∷◌, ◌++◌, length, map, take, slice_index_or, Result, Ok, Err}
 use Rattle.std.specs.List.{All, list_any}
 use Rattle.std.specs.Borrow.{Bor}
 use Rattle.dcv_language.specs.Limits.{most_nodes}

@@ -1,5 +1,5 @@
 // The table rules, section by section.
-ghost use Rattle.std.specs.Prelude.{◌≡◌, ◌+◌, ◌*◌, ◌^◌, ◌<◌, ◌≤◌, ◌&&◌, nat_lt, nat_le, length, Some, IfOk, OnOk};
+ghost use Rattle.std.specs.Prelude.{◌≡◌, ◌+◌, ◌*◌, ◌^◌, ◌<◌, ◌≤◌, ◌&&◌, nat_lt, nat_le, ℕ, Bool, List, length, map, Some, IfOk, OnOk};
 ghost use Rattle.std.specs.List.{zip};
 ghost use Rattle.dcv_language.specs.Limits.{most_states};
 ghost use Rattle.dcv_automaton_text.specs.Form.{HasForm};
@@ -10,7 +10,8 @@ ghost use Rattle.dcv_automaton_lines.specs.Seen.{file_of, letter_of, state_line_
 ghost use Rattle.dcv_automaton_lines.specs.Seen.{step_line_of, step_part_of};
 ghost use Rattle.dcv_automaton_read.specs.Judged.{IsJudged, first_word, IsJudgedWhole};
 ghost use Rattle.dcv_automaton_read.specs.Seen.{AreNodesOf, IsJudgedText};
-ghost use Rattle.dcv_automaton_read.specs.Parts.{judged_head, judged_states, judged_access, judged_suffixes, judged_step_lines};
+ghost use Rattle.dcv_automaton_read.specs.Parts.{judged_head, judged_lines};
+ghost use Rattle.dcv_automaton_text.specs.File.{StateLine as PlainStateLine, AccessLine as PlainAccessLine, SuffixLine as PlainSuffixLine, StepLine as PlainStepLine};
 
 use crate::faults::{AutoFault, Stop};
 use crate::names::judge_names;
@@ -55,37 +56,6 @@ fn keeps_row(lines: &Lines, row: Child) -> bool
     }
 }
 
-// The words of the line of the state at this place.
-fn judge_state(lines: &Lines, place: usize, line: &StateLine, first: u64) -> Result<u64, Stop>
-    requires { first < 2 ^ 40 }
-    ensures judged { let words = zip (state_words (state_line_of line.now)) (keeps_state (file_of lines.now) place (state_line_of line.now)) in IsJudged (first_word first words) (first + length words) result }
-    ensures few { OnOk result (place < 2 ^ 32) }
-    ensures bound { IfOk result (λ number. number ≤ first + 4) }
-{
-    judge(
-        first,
-        &[
-            place < lines.states as usize,
-            line.number as usize == place,
-            true,
-            keeps_row(lines, line.row),
-        ],
-    )
-}
-
-// The words of the states' lines.
-fn judge_states(lines: &Lines, first: u64) -> Result<u64, Stop>
-    requires { first < 2 ^ 32 }
-    ensures judged { let words = judged_states (file_of lines.now) in IsJudged (first_word first words) (first + length words) result }
-    ensures bound { IfOk result (λ number. number ≤ first + 4 * 2 ^ 32) }
-{
-    let mut number = first;
-    for (place, line) in lines.state_lines.iter().enumerate() {
-        number = judge_state(lines, place, line, number)?;
-    }
-    Ok(number)
-}
-
 // Whether a letter has a value for each variable.
 fn has_width(lines: &Lines, letter: &[u8]) -> bool
     ensures { result ≡ has_width (file_of lines.now) (letter_of letter.now) }
@@ -118,111 +88,201 @@ fn has_all_access(lines: &Lines) -> bool
     has_all_states(lines) && lines.states as usize <= lines.access_lines.len()
 }
 
-// The words of the line of the access word at this place.
-fn judge_access(lines: &Lines, place: usize, line: &AccessLine, first: u64) -> Result<u64, Stop>
-    requires { first < 2 ^ 40 }
-    ensures judged { let words = zip (access_words (access_line_of line.now)) (keeps_access (file_of lines.now) place (access_line_of line.now)) in IsJudged (first_word first words) (first + length words) result }
-    ensures few { OnOk result (place < 2 ^ 32) }
-    ensures bound { IfOk result (λ number. number ≤ first + 4) }
-{
-    let begins = has_all_states(lines) && place < lines.states as usize;
-    let numbered = line.number as usize == place;
-    match line.access {
-        AccessWord::Empty => judge(first, &[begins, numbered, place == 0]),
-        AccessWord::Start(letter) => {
-            judge(first, &[begins, numbered, true, has_width(lines, letter)])
-        }
-        AccessWord::After(state, letter) => {
-            let before = goes_before(lines, place, state);
-            judge(first, &[begins, numbered, before, has_width(lines, letter)])
-        }
-    }
+// A section of an automaton's text: what its lines spell, and the rules that they keep.
+trait Section<Line> {
+    // The lines.
+    ghost lines: { Self → List Line };
+
+    // A line, as definitions have it.
+    ghost Seen: { Type 0 };
+
+    ghost seen: { Line → Seen };
+
+    // The words of a line.
+    ghost words: { Seen → List (List ℕ) };
+
+    // Which of its words keep the rules, at a place.
+    ghost keeps: { Self → ℕ → Seen → List Bool };
+
+    // The lines.
+    fn lines(&self) -> &[Line]
+        ensures { result.now ≡ lines self.now };
+
+    // The words of the line at this place.
+    fn judge_line(&self, place: usize, line: &Line, first: u64) -> Result<u64, Stop>
+        requires { first < 2 ^ 40 }
+        ensures judged { let words = zip (words (seen line.now)) (keeps self.now place (seen line.now)) in IsJudged (first_word first words) (first + length words) result }
+        ensures few { OnOk result (place < 2 ^ 32) }
+        ensures bound { IfOk result (λ number. number ≤ first + 8) };
 }
 
-// The words of the lines of access words.
-fn judge_access_lines(lines: &Lines, first: u64) -> Result<u64, Stop>
-    requires { first < 2 ^ 36 }
-    ensures judged { let words = judged_access (file_of lines.now) in IsJudged (first_word first words) (first + length words) result }
-    ensures bound { IfOk result (λ number. number ≤ first + 4 * 2 ^ 32) }
-{
-    let mut number = first;
-    for (place, line) in lines.access_lines.iter().enumerate() {
-        number = judge_access(lines, place, line, number)?;
-    }
-    Ok(number)
-}
-
-// The words of the line of the suffix at this place.
-fn judge_suffix(lines: &Lines, place: usize, line: &SuffixLine, first: u64) -> Result<u64, Stop>
-    requires { first < 2 ^ 40 }
-    ensures judged { let words = zip (suffix_words (suffix_line_of line.now)) (keeps_suffix (file_of lines.now) place (suffix_line_of line.now)) in IsJudged (first_word first words) (first + length words) result }
-    ensures few { OnOk result (place < 2 ^ 32) }
-    ensures bound { IfOk result (λ number. number ≤ first + 4) }
-{
-    let begins = has_all_access(lines);
-    let numbered = line.number as usize == place;
-    match line.suffix {
-        SuffixWord::Empty => judge(first, &[begins, numbered, place == 0]),
-        SuffixWord::Then(letter, suffix) => {
-            let goes_on = 0 < place && has_width(lines, letter);
-            judge(
-                first,
-                &[begins, numbered, goes_on, (suffix as usize) < place],
-            )
-        }
-    }
-}
-
-// The words of the lines of suffixes.
-fn judge_suffixes(lines: &Lines, first: u64) -> Result<u64, Stop>
-    requires { first < 2 ^ 37 }
-    ensures judged { let words = judged_suffixes (file_of lines.now) in IsJudged (first_word first words) (first + length words) result }
-    ensures bound { IfOk result (λ number. number ≤ first + 4 * 2 ^ 32) }
-{
-    let mut number = first;
-    for (place, line) in lines.suffix_lines.iter().enumerate() {
-        number = judge_suffix(lines, place, line, number)?;
-    }
-    Ok(number)
-}
-
-// The words of the line of the step at this place.
-fn judge_step(part: &StepPart, place: usize, line: &StepLine, first: u64) -> Result<u64, Stop>
-    requires { first < 2 ^ 40 }
-    ensures judged { let words = zip (step_words (step_line_of line.now)) (keeps_step (step_part_of part.now) place (step_line_of line.now)) in IsJudged (first_word first words) (first + length words) result }
-    ensures few { OnOk result (place < 2 ^ 32) }
-    ensures bound { IfOk result (λ number. number ≤ first + 8) }
-{
-    let keeps_number = line.number as usize == place;
-    let keeps_at = line.at <= MOST_START;
-    let keeps_states = keeps_count(line.states);
-    let keeps_nodes = line.nodes <= MOST_NODES;
-    judge(
-        first,
-        &[
-            place < part.count as usize,
-            keeps_number,
-            true,
-            keeps_at,
-            true,
-            keeps_states,
-            true,
-            keeps_nodes,
-        ],
-    )
-}
-
-// The words of the steps' lines.
-fn judge_step_lines(part: &StepPart, first: u64) -> Result<u64, Stop>
+// The words of the lines of a section.
+fn judge_section<Line, S: Section<Line>>(section: &S, first: u64) -> Result<u64, Stop>
     requires { first < 2 ^ 39 }
-    ensures judged { let words = judged_step_lines (step_part_of part.now) in IsJudged (first_word first words) (first + length words) result }
+    ensures judged { let words = judged_lines S.words (S.keeps section.now) 0 (map S.seen (S.lines section.now)) in IsJudged (first_word first words) (first + length words) result }
     ensures bound { IfOk result (λ number. number ≤ first + 8 * 2 ^ 32) }
 {
     let mut number = first;
-    for (place, line) in part.lines.iter().enumerate() {
-        number = judge_step(part, place, line, number)?;
+    for (place, line) in section.lines().iter().enumerate() {
+        number = section.judge_line(place, line, number)?;
     }
     Ok(number)
+}
+
+// The lines of states.
+#[derive(Clone, Copy)]
+struct States<'a, 't> {
+    lines: &'a Lines<'t>,
+}
+
+impl Section<StateLine> for States<'_, '_> {
+    ghost lines = { λ section. section.lines.now.state_lines.items };
+
+    ghost Seen = { PlainStateLine };
+
+    ghost seen = { state_line_of };
+
+    ghost words = { state_words };
+
+    ghost keeps = { λ section. keeps_state (file_of section.lines.now) };
+
+    fn lines(&self) -> &[StateLine] {
+        &self.lines.state_lines
+    }
+
+    fn judge_line(&self, place: usize, line: &StateLine, first: u64) -> Result<u64, Stop> {
+        judge(
+            first,
+            &[
+                place < self.lines.states as usize,
+                line.number as usize == place,
+                true,
+                keeps_row(self.lines, line.row),
+            ],
+        )
+    }
+}
+
+// The lines of access words.
+#[derive(Clone, Copy)]
+struct AccessWords<'a, 't> {
+    lines: &'a Lines<'t>,
+}
+
+impl<'t> Section<AccessLine<'t>> for AccessWords<'_, 't> {
+    ghost lines = { λ section. section.lines.now.access_lines.items };
+
+    ghost Seen = { PlainAccessLine };
+
+    ghost seen = { access_line_of };
+
+    ghost words = { access_words };
+
+    ghost keeps = { λ section. keeps_access (file_of section.lines.now) };
+
+    fn lines(&self) -> &[AccessLine<'t>] {
+        &self.lines.access_lines
+    }
+
+    fn judge_line(&self, place: usize, line: &AccessLine<'t>, first: u64) -> Result<u64, Stop> {
+        let begins = has_all_states(self.lines) && place < self.lines.states as usize;
+        let numbered = line.number as usize == place;
+        match line.access {
+            AccessWord::Empty => judge(first, &[begins, numbered, place == 0]),
+            AccessWord::Start(letter) => {
+                judge(
+                    first,
+                    &[begins, numbered, true, has_width(self.lines, letter)],
+                )
+            }
+            AccessWord::After(state, letter) => {
+                let before = goes_before(self.lines, place, state);
+                judge(
+                    first,
+                    &[begins, numbered, before, has_width(self.lines, letter)],
+                )
+            }
+        }
+    }
+}
+
+// The lines of suffixes.
+#[derive(Clone, Copy)]
+struct Suffixes<'a, 't> {
+    lines: &'a Lines<'t>,
+}
+
+impl<'t> Section<SuffixLine<'t>> for Suffixes<'_, 't> {
+    ghost lines = { λ section. section.lines.now.suffix_lines.items };
+
+    ghost Seen = { PlainSuffixLine };
+
+    ghost seen = { suffix_line_of };
+
+    ghost words = { suffix_words };
+
+    ghost keeps = { λ section. keeps_suffix (file_of section.lines.now) };
+
+    fn lines(&self) -> &[SuffixLine<'t>] {
+        &self.lines.suffix_lines
+    }
+
+    fn judge_line(&self, place: usize, line: &SuffixLine<'t>, first: u64) -> Result<u64, Stop> {
+        let begins = has_all_access(self.lines);
+        let numbered = line.number as usize == place;
+        match line.suffix {
+            SuffixWord::Empty => judge(first, &[begins, numbered, place == 0]),
+            SuffixWord::Then(letter, suffix) => {
+                let goes_on = 0 < place && has_width(self.lines, letter);
+                judge(
+                    first,
+                    &[begins, numbered, goes_on, (suffix as usize) < place],
+                )
+            }
+        }
+    }
+}
+
+// The lines of steps.
+#[derive(Clone, Copy)]
+struct Steps<'a> {
+    part: &'a StepPart,
+}
+
+impl Section<StepLine> for Steps<'_> {
+    ghost lines = { λ section. section.part.now.lines.items };
+
+    ghost Seen = { PlainStepLine };
+
+    ghost seen = { step_line_of };
+
+    ghost words = { step_words };
+
+    ghost keeps = { λ section. keeps_step (step_part_of section.part.now) };
+
+    fn lines(&self) -> &[StepLine] {
+        &self.part.lines
+    }
+
+    fn judge_line(&self, place: usize, line: &StepLine, first: u64) -> Result<u64, Stop> {
+        let keeps_number = line.number as usize == place;
+        let keeps_at = line.at <= MOST_START;
+        let keeps_states = keeps_count(line.states);
+        let keeps_nodes = line.nodes <= MOST_NODES;
+        judge(
+            first,
+            &[
+                place < self.part.count as usize,
+                keeps_number,
+                true,
+                keeps_at,
+                true,
+                keeps_states,
+                true,
+                keeps_nodes,
+            ],
+        )
+    }
 }
 
 // The words of the step part.
@@ -232,7 +292,7 @@ fn judge_step_part(lines: &Lines, part: &StepPart, first: u64) -> Result<u64, St
     ensures bound { IfOk result (λ number. number ≤ first + 2 ^ 36) }
 {
     let behind_count = judge(first, &[has_all_access(lines), part.count <= MOST_STEPS])?;
-    judge_step_lines(part, behind_count)
+    judge_section(&Steps { part }, behind_count)
 }
 
 // The words of the step part, if there is one.
@@ -272,9 +332,9 @@ fn judge_lines(alloc: Global, lines: &Lines) -> Result<IndexSet<Node>, Stop>
     let mut nodes = IndexSet::new(alloc);
     let behind_head = judge_head(lines)?;
     let behind_nodes = judge_nodes(lines, &mut nodes, behind_head)?;
-    let behind_states = judge_states(lines, behind_nodes)?;
-    let behind_access = judge_access_lines(lines, behind_states)?;
-    let behind_suffixes = judge_suffixes(lines, behind_access)?;
+    let behind_states = judge_section(&States { lines }, behind_nodes)?;
+    let behind_access = judge_section(&AccessWords { lines }, behind_states)?;
+    let behind_suffixes = judge_section(&Suffixes { lines }, behind_access)?;
     let behind_steps = judge_steps(lines, behind_suffixes)?;
     judge(behind_steps, &[has_all_lines(lines)])?;
     Ok(nodes)
