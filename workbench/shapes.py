@@ -3,6 +3,7 @@ import re
 from typing import Dict, List, Mapping, Optional, Set, Tuple
 
 import language
+import limits
 from language import Token, natural
 from words import COUNTS, MEASURES, RELATIONS, RESERVED
 
