@@ -160,22 +160,22 @@ def expected(text, trace):
 def edited(draw, text):
     """The text with one small change."""
     at, way = draw.randrange(len(text)), draw.random()
-    if way < 0.2:
+    if way < 0.45:
         numbers = list(re.finditer(rb"\d+", text))
         one = draw.choice(numbers)
         value = draw.choice([b"0", b"1", b"2", b"010", b"32000", b"32001", b"65536", b"1000001", b"9999999", b"10000000", str(int(one[0]) + 1).encode(),
                              str(max(0, int(one[0]) - 1)).encode(), draw.choice(numbers)[0], b""])
         return text[:one.start()] + value + text[one.end():]
-    if way < 0.45:
+    if way < 0.6:
         lines = text.splitlines(keepends=True)
         place = draw.randrange(len(lines))
         new = draw.choice([[], [lines[place]] * 2, [draw.choice(lines)], [lines[place].replace(b"\n", b"\r\n")], [b"  0,\n", lines[place]]])
         return b"".join(lines[:place] + new + lines[place + 1:])
-    if way < 0.55:
+    if way < 0.7:
         words = sorted(set(re.findall(rb"v_\w+", text))) or [b"void"]
         return text.replace(draw.choice(words), draw.choice([b"v_x", b"v_y", b"v_", b"v_infer", b"v_1", b"x", b"v_" + b"a" * 24, b"v_" + b"a" * 25, b"void"]),
                             draw.choice([1, -1]))
-    if way < 0.65:
+    if way < 0.75:
         return text[:at]
     byte = bytes([draw.choice(b"0129 ,;{}[]()\n\rvx_=\x00\xff\t")])
     return text[:at] + draw.choice([b"", byte, byte + text[at:at + 1]]) + text[at + 1:]
