@@ -6,6 +6,5 @@ pub mod Building
 pub mod Joining
 pub mod FaultFacts
 pub mod SlotSteps
-pub mod Lists
 pub mod OneRound
 pub mod ListSteps

@@ -116,9 +116,7 @@ fn has_room(basic: &Basic) -> bool
     ensures { IsTrue result ↔ HasRoom (plain_basic basic.now) }
 {
     match basic {
-        Basic::Slen(_, number) | Basic::Scount(_, _, number) | Basic::Sdur(_, _, number) => {
-            *number < u32::MAX
-        }
+        Basic::Slen(_, number) | Basic::Counted(_, _, _, number) => *number < u32::MAX,
         _ => true,
     }
 }
@@ -147,14 +145,9 @@ fn proposition(alloc: Global, arena: &mut Arena, basic: &Basic) -> Result<Ref, A
     ensures arena { IsArena arena.new }
 {
     match basic {
-        Basic::Point(truth)
-        | Basic::Run(truth)
-        | Basic::Every(truth)
-        | Basic::Unit(truth)
-        | Basic::Scount(truth, _, _)
-        | Basic::Sdur(truth, _, _)
-        | Basic::Back(truth, _)
-        | Basic::Fore(truth, _) => diagram(alloc, arena, truth),
+        Basic::Bracketed(_, truth) | Basic::Counted(_, truth, _, _) | Basic::Track(_, truth, _) => {
+            diagram(alloc, arena, truth)
+        }
         Basic::Constant(_) | Basic::Slen(_, _) => Ok(arena.leaf(0)),
     }
 }
@@ -169,7 +162,7 @@ fn shifted(arena: &mut Arena, basic: &Basic) -> Result<Ref, AtomFault>
     ensures arena { IsArena arena.new }
 {
     match basic {
-        Basic::Back(_, slot) | Basic::Fore(_, slot) => value(arena, *slot),
+        Basic::Track(_, _, slot) => value(arena, *slot),
         _ => Ok(arena.leaf(0)),
     }
 }
@@ -178,7 +171,7 @@ fn shifted(arena: &mut Arena, basic: &Basic) -> Result<Ref, AtomFault>
 fn is_shift(basic: &Basic) -> bool
     ensures { leaf_count (plain_basic basic.now) ≡ (if result then 4 else 3) }
 {
-    matches!(basic, Basic::Back(_, _) | Basic::Fore(_, _))
+    matches!(basic, Basic::Track(_, _, _))
 }
 
 impl Machine for Atom<'_> {

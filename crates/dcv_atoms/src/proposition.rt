@@ -42,7 +42,6 @@ pub(crate) fn diagram(alloc: Global, arena: &mut Arena, truth: &Truth) -> Result
 
 // The letters in which a part of it holds.
 #[cycle(diagrams)]
-#[tactic(auto, using(crate::proofs::Lists::list_rows))]
 fn part(
     alloc: Global,
     arena: &mut Arena,
@@ -62,9 +61,7 @@ fn part(
             let root = part(alloc, arena, operand, rounds)?;
             opposite(alloc, arena, root)
         }
-        Truth::And(operands) => list(alloc, arena, Connective::And, operands, rounds),
-        Truth::Or(operands) => list(alloc, arena, Connective::Or, operands, rounds),
-        Truth::Iff(operands) => list(alloc, arena, Connective::Iff, operands, rounds),
+        Truth::Joined(connective, operands) => list(alloc, arena, *connective, operands, rounds),
         // of no core
         Truth::Shift(_, _, _) => Ok(arena.leaf(0)),
     }

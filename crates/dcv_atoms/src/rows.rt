@@ -10,7 +10,7 @@ ghost use Rattle.dcv_atoms.specs.AtomRows.{kept_count, count_found, kept_duratio
 ghost use Rattle.dcv_atoms.specs.Numbers.{HasRoom};
 
 use crate::states::AtomMacro;
-use dcv_core::{Basic, Rel};
+use dcv_core::{Basic, Bracket, Count, Direction, Rel};
 
 // The state after a letter.
 pub(crate) fn after(basic: &Basic, from: AtomMacro, holds: bool, shifted: bool) -> AtomMacro
@@ -19,15 +19,15 @@ pub(crate) fn after(basic: &Basic, from: AtomMacro, holds: bool, shifted: bool) 
 {
     match basic {
         Basic::Constant(_) => AtomMacro::Start,
-        Basic::Point(_) => point(from, holds),
-        Basic::Run(_) => run(from, holds),
-        Basic::Every(_) => every(from, holds),
-        Basic::Unit(_) => unit(from, holds),
+        Basic::Bracketed(Bracket::Point, _) => point(from, holds),
+        Basic::Bracketed(Bracket::Run, _) => run(from, holds),
+        Basic::Bracketed(Bracket::Every, _) => every(from, holds),
+        Basic::Bracketed(Bracket::Unit, _) => unit(from, holds),
         Basic::Slen(_, number) => slen(from, *number),
-        Basic::Scount(_, _, number) => scount(from, holds, *number),
-        Basic::Sdur(_, _, number) => sdur(from, holds, *number),
-        Basic::Back(_, _) => back(from, holds, shifted),
-        Basic::Fore(_, _) => fore(from, holds, shifted),
+        Basic::Counted(Count::Scount, _, _, number) => scount(from, holds, *number),
+        Basic::Counted(Count::Sdur, _, _, number) => sdur(from, holds, *number),
+        Basic::Track(Direction::Prior, _, _) => back(from, holds, shifted),
+        Basic::Track(Direction::Next, _, _) => fore(from, holds, shifted),
     }
 }
 
@@ -172,15 +172,18 @@ pub(crate) fn accepts(basic: &Basic, state: AtomMacro) -> bool
 {
     match basic {
         Basic::Constant(truth) => *truth,
-        Basic::Point(_) | Basic::Every(_) | Basic::Unit(_) => state == AtomMacro::Good,
-        Basic::Fore(_, _) => state == AtomMacro::Good,
-        Basic::Back(_, _) => matches!(state, AtomMacro::Good | AtomMacro::First),
-        Basic::Run(_) => matches!(state, AtomMacro::Good | AtomMacro::Last),
-        Basic::Slen(relation, number) | Basic::Scount(_, relation, number) => match state {
-            AtomMacro::Count(count) => meets(*relation, count, *number),
-            _ => false,
-        },
-        Basic::Sdur(_, relation, number) => match state {
+        Basic::Bracketed(Bracket::Run, _) => matches!(state, AtomMacro::Good | AtomMacro::Last),
+        Basic::Track(Direction::Prior, _, _) => {
+            matches!(state, AtomMacro::Good | AtomMacro::First)
+        }
+        Basic::Bracketed(_, _) | Basic::Track(Direction::Next, _, _) => state == AtomMacro::Good,
+        Basic::Slen(relation, number) | Basic::Counted(Count::Scount, _, relation, number) => {
+            match state {
+                AtomMacro::Count(count) => meets(*relation, count, *number),
+                _ => false,
+            }
+        }
+        Basic::Counted(Count::Sdur, _, relation, number) => match state {
             AtomMacro::Lasted { count, .. } => meets(*relation, count, *number),
             _ => false,
         },

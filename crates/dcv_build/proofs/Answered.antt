@@ -11,9 +11,11 @@ use Rattle.indexmap.specs.IndexMap.{insert_entry}
 use Rattle.lru.proofs.CallerLemmas.{Contains-lookup}
 use Rattle.dcv_build.proofs.Insertions.{insert_cases}
 use Rattle.dcv_build.proofs.Settled.{made_is_built}
+use Rattle.dcv_syntax.specs.declared.propositions.Connective.TheVariants.{And, Or, Iff}
 use Rattle.dcv_language.specs.Automaton.{WorkingMachine}
-use Rattle.dcv_language.specs.OperationMachines.{and_machine, or_machine, iff_machine, chop_machine, star_machine, exists_machine}
+use Rattle.dcv_language.specs.OperationMachines.{pair_machine, chop_machine, star_machine, exists_machine}
 use Rattle.dcv_language.specs.Table.{Table, automaton_of}
+use Rattle.dcv_logic.specs.Connectives.{joins}
 use Rattle.dcv_explore.specs.declared.explorer.Limits.{Limits}
 use Rattle.dcv_explore.specs.Budget.{Row}
 use Rattle.dcv_shelf.specs.Shelf.{ShelfTable, table_of_auto, nodes_of_table, KeepsNumbers, HasComplement}
@@ -22,7 +24,7 @@ use Rattle.dcv_build.specs.Rows.{pair_row, chop_row, star_row, set_row}
 use Rattle.dcv_build.specs.Settled.{IsBuilt, HasExplored, IsLeastMade, IsPassed, Settles, IsFor, Answers}
 use Rattle.dcv_build.specs.declared.asked.Answer.{Answer}
 use Rattle.dcv_build.specs.declared.asked.Asked.{Asked}
-use Rattle.dcv_build.specs.declared.asked.Asked.TheVariants.{And, Or, Iff, Chop, Star, Exists}
+use Rattle.dcv_build.specs.declared.asked.Asked.TheVariants.{Joined, Chop, Star, Exists}
 use Rattle.dcv_build.specs.declared.faults.BuildFault.{BuildFault}
 use Rattle.dcv_build.specs.declared.settling.Explored.{Explored}
 use Rattle.dcv_build.specs.declared.settling.Made.{Made}
@@ -81,9 +83,7 @@ module _ (old new : List ShelfTable) (kept : KeepsNumbers old new) where
   }
 
   pub operands_kept : (asked : Asked) → AreOperands old asked → AreOperands new asked
-  operands_kept (And c d) are = two_kept c d are
-  operands_kept (Or c d) are = two_kept c d are
-  operands_kept (Iff c d) are = two_kept c d are
+  operands_kept (Joined connective c d) are = two_kept c d are
   operands_kept (Chop c d) are = two_kept c d are
   operands_kept (Star d) there = within_kept old new kept d there
   operands_kept (Exists d) is = record { there = within_kept old new kept d is.there; some = omega (arith, is.some, slots_same d is.there) }
@@ -100,9 +100,7 @@ module _ (old new : List ShelfTable) (kept : KeepsNumbers old new) where
     by_one row d within here = subst (λ (t : ℕ × Table). P (row t.0 t.1)) (λ i. (slots_same d within i, plain_same d within i)) here
 
     pub row_kept : (asked : Asked) → AreOperands old asked → P (asked_row old asked) → P (asked_row new asked)
-    row_kept (And c d) are here = by_two (λ slots t u. pair_row (and_machine slots (automaton_of t) (automaton_of u))) c d are here
-    row_kept (Or c d) are here = by_two (λ slots t u. pair_row (or_machine slots (automaton_of t) (automaton_of u))) c d are here
-    row_kept (Iff c d) are here = by_two (λ slots t u. pair_row (iff_machine slots (automaton_of t) (automaton_of u))) c d are here
+    row_kept (Joined connective c d) are here = by_two (λ slots t u. pair_row (pair_machine slots (joins connective) (automaton_of t) (automaton_of u))) c d are here
     row_kept (Chop c d) are here = by_two (λ slots t u. chop_row (chop_machine slots (automaton_of t) (automaton_of u))) c d are here
     row_kept (Star d) there here = by_one (λ slots t. star_row (star_machine slots (automaton_of t))) d there here
     row_kept (Exists d) is here = by_one (λ slots t. set_row (exists_machine (slots - 1) (automaton_of t))) d is.there here
@@ -126,9 +124,9 @@ module _ (old new : List ShelfTable) (kept : KeepsNumbers old new) where
 -- ---- the map
 
 same_asked : (one other : Asked) → asked_eq.it one other ≡ true → one ≡ other
-same_asked (And c d) (And e f) t = let p = (Decides-and _ _ (unsigned_Decides c e) (unsigned_Decides d f)).0 t in λ i. And (p.0 i) (p.1 i)
-same_asked (Or c d) (Or e f) t = let p = (Decides-and _ _ (unsigned_Decides c e) (unsigned_Decides d f)).0 t in λ i. Or (p.0 i) (p.1 i)
-same_asked (Iff c d) (Iff e f) t = let p = (Decides-and _ _ (unsigned_Decides c e) (unsigned_Decides d f)).0 t in λ i. Iff (p.0 i) (p.1 i)
+same_asked (Joined And c d) (Joined And e f) t = let p = (Decides-and _ _ (unsigned_Decides c e) (unsigned_Decides d f)).0 t in λ i. Joined And (p.0 i) (p.1 i)
+same_asked (Joined Or c d) (Joined Or e f) t = let p = (Decides-and _ _ (unsigned_Decides c e) (unsigned_Decides d f)).0 t in λ i. Joined Or (p.0 i) (p.1 i)
+same_asked (Joined Iff c d) (Joined Iff e f) t = let p = (Decides-and _ _ (unsigned_Decides c e) (unsigned_Decides d f)).0 t in λ i. Joined Iff (p.0 i) (p.1 i)
 same_asked (Chop c d) (Chop e f) t = let p = (Decides-and _ _ (unsigned_Decides c e) (unsigned_Decides d f)).0 t in λ i. Chop (p.0 i) (p.1 i)
 same_asked (Star d) (Star e) t = ap Star ((unsigned_Decides d e).0 t)
 same_asked (Exists d) (Exists e) t = ap Exists ((unsigned_Decides d e).0 t)

@@ -6,12 +6,12 @@ use Rattle.std.proofs.lemmas.Option.{slice_get-map, same_Some}
 use Rattle.dcv_language.specs.declared.count.Count.{Count}
 use Rattle.dcv_language.specs.Language.{Language, outside}
 use Rattle.dcv_language.specs.Laws.{OneCanonicalTable}
-use Rattle.dcv_language.specs.Operations.{intersection, union, agreement, chop, star, projection}
-use Rattle.dcv_language.specs.OperationMachines.{not_machine, and_machine, or_machine, iff_machine, chop_machine, star_machine, exists_machine}
+use Rattle.dcv_language.specs.Operations.{chop, star, projection}
+use Rattle.dcv_language.specs.OperationMachines.{not_machine, pair_machine, chop_machine, star_machine, exists_machine}
 use Rattle.dcv_language.specs.Table.{Table, automaton_of}
+use Rattle.dcv_logic.specs.Connectives.{joins}
 use Rattle.dcv_core.specs.Core.{CoreTree, PlainBasic}
 use Rattle.dcv_syntax.specs.declared.propositions.Connective.{Connective}
-use Rattle.dcv_syntax.specs.declared.propositions.Connective.TheVariants as connective
 use Rattle.dcv_core.specs.Steps.{PlainOp, OpAtom, OpNot, OpJoined, OpChop, OpStar, OpExists, PlainStep, CoreStep, PlainCore, without_core, steps_before, steps_of}
 use Rattle.dcv_core.specs.StepWords.{joined_words, TakesOne, TakesTwo, IsOperation}
 use Rattle.dcv_core.proofs.StepList.{steps_are_operations}
@@ -24,7 +24,7 @@ use Rattle.dcv_explore.specs.Budget.{Row}
 use Rattle.dcv_shelf.specs.Shelf.{ShelfTable, nodes_of_table, KeepsNumbers, IsComplement}
 use Rattle.dcv_build.specs.declared.asked.Answer.{Answer}
 use Rattle.dcv_build.specs.declared.asked.Asked.{Asked}
-use Rattle.dcv_build.specs.declared.asked.Asked.TheVariants.{And, Or, Iff, Chop, Star, Exists}
+use Rattle.dcv_build.specs.declared.asked.Asked.TheVariants.{Joined, Chop, Star, Exists}
 use Rattle.dcv_build.specs.declared.faults.BuildFault.{BuildFault}
 use Rattle.dcv_build.specs.declared.settling.Explored.{Explored}
 use Rattle.dcv_build.specs.Asked.{at_number, tables_at, AreThere, plain_tables, asked_row, AreTwo, IsWide, AreOperands, ServesAsked, AnswersAsked, IsTurned}
@@ -74,9 +74,7 @@ module _ (tables : List Table) (slots : ℕ) (shelf : List ShelfTable) where
     pub only : get_or (plain_tables shelf) a [] ≡ table_at tables d
 
   abbrev TheseAre : Asked → ℕ → ℕ → Type 0
-  TheseAre (And a b) c d = TwoAre a b c d
-  TheseAre (Or a b) c d = TwoAre a b c d
-  TheseAre (Iff a b) c d = TwoAre a b c d
+  TheseAre (Joined connective a b) c d = TwoAre a b c d
   TheseAre (Chop a b) c d = TwoAre a b c d
   TheseAre (Star a) c d = OneIs a d slots
   TheseAre (Exists a) c d = OneIs a d (suc slots)
@@ -92,9 +90,7 @@ module _ (tables : List Table) (slots : ℕ) (shelf : List ShelfTable) where
     by_one row a d width is here = subst (λ (t : ℕ × Table). P (row t.0 t.1)) (λ i. (is.wide i, is.only i)) here
 
     row_is : (asked : Asked) (c d : ℕ) → TheseAre asked c d → P (asked_row shelf asked) → P (row_of (op_like asked c d) slots tables)
-    row_is (And a b) c d are here = by_two (λ slots t u. pair_row (and_machine slots (automaton_of t) (automaton_of u))) a b c d are here
-    row_is (Or a b) c d are here = by_two (λ slots t u. pair_row (or_machine slots (automaton_of t) (automaton_of u))) a b c d are here
-    row_is (Iff a b) c d are here = by_two (λ slots t u. pair_row (iff_machine slots (automaton_of t) (automaton_of u))) a b c d are here
+    row_is (Joined connective a b) c d are here = by_two (λ slots t u. pair_row (pair_machine slots (joins connective) (automaton_of t) (automaton_of u))) a b c d are here
     row_is (Chop a b) c d are here = by_two (λ slots t u. chop_row (chop_machine slots (automaton_of t) (automaton_of u))) a b c d are here
     row_is (Star a) c d is here = by_one (λ slots t. star_row (star_machine slots (automaton_of t))) a d slots is here
     row_is (Exists a) c d is here =
@@ -181,9 +177,7 @@ module _ (k : ℕ) (tree : CoreTree) (limits : Limits) (n : ℕ) (shelf : List S
   -- by the operator
   takes : (asked : Asked) (c d : ℕ) → step.op ≡ op_like asked c d → AreThere shelf (numbers_of asked) → (built : Built (numbers_of asked))
       → Takes built.tables (AreOperands shelf asked) (TheseAre built.tables step.slots shelf asked c d)
-  takes (And a b) c d is all built = takes_two a b c d intersection (operation_is (OpJoined connective.And c d) is) (after_is (OpJoined connective.And c d) is) (all 0 0 (omega arith)) (all 1 0 (omega arith)) built
-  takes (Or a b) c d is all built = takes_two a b c d union (operation_is (OpJoined connective.Or c d) is) (after_is (OpJoined connective.Or c d) is) (all 0 0 (omega arith)) (all 1 0 (omega arith)) built
-  takes (Iff a b) c d is all built = takes_two a b c d agreement (operation_is (OpJoined connective.Iff c d) is) (after_is (OpJoined connective.Iff c d) is) (all 0 0 (omega arith)) (all 1 0 (omega arith)) built
+  takes (Joined connective a b) c d is all built = takes_two a b c d (joined_words connective) (operation_is (OpJoined connective c d) is) (after_is (OpJoined connective c d) is) (all 0 0 (omega arith)) (all 1 0 (omega arith)) built
   takes (Chop a b) c d is all built = takes_two a b c d chop (operation_is (OpChop c d) is) (after_is (OpChop c d) is) (all 0 0 (omega arith)) (all 1 0 (omega arith)) built
   takes (Star a) c d is all built = takes_star a d (operation_is (OpStar d) is) (after_is (OpStar d) is) (all 0 0 (omega arith)) built
   takes (Exists a) c d is all built = takes_wide a d (operation_is (OpExists d) is) (after_is (OpExists d) is) (all 0 0 (omega arith)) built

@@ -12,7 +12,6 @@
 use Rattle.std.specs.Prelude.{◌≡◌, ℕ, ◌-◌, ◌<◌, List, [], length, map, Some, slice_get, slice_index_or, Result, Contains}
 use Rattle.std.specs.List.{All}
 use Rattle.dcv_language.specs.Table.{Table}
-use Rattle.dcv_syntax.specs.declared.propositions.Connective.TheVariants as connective
 use Rattle.dcv_core.specs.Steps.{PlainOp, OpJoined, OpChop, OpStar, OpExists}
 use Rattle.dcv_dfa.specs.Auto.{IsAuto}
 use Rattle.dcv_dfa.specs.Raw.{IsRaw}
@@ -23,7 +22,7 @@ use Rattle.dcv_build.specs.Rows.{row_of}
 use Rattle.dcv_build.specs.Settled.{SettlesUpTo, Serves, Decides, IsFor, Answers}
 use Rattle.dcv_build.specs.declared.asked.Answer.{Answer}
 use Rattle.dcv_build.specs.declared.asked.Asked.{Asked}
-use Rattle.dcv_build.specs.declared.asked.Asked.TheVariants.{And, Or, Iff, Chop, Star, Exists}
+use Rattle.dcv_build.specs.declared.asked.Asked.TheVariants.{Joined, Chop, Star, Exists}
 use Rattle.dcv_build.specs.declared.faults.BuildFault.{BuildFault}
 use Rattle.dcv_build.specs.declared.settling.Explored.{Explored}
 use Rattle.dcv_build.specs.declared.settling.Extent.{Extent}
@@ -46,17 +45,13 @@ AreThere shelf numbers = All (λ number. number < length shelf) numbers
 -- ---- operators
 
 abbrev pub op_of : Asked → PlainOp
-op_of (And c d) = OpJoined connective.And c d
-op_of (Or c d) = OpJoined connective.Or c d
-op_of (Iff c d) = OpJoined connective.Iff c d
+op_of (Joined connective c d) = OpJoined connective c d
 op_of (Chop c d) = OpChop c d
 op_of (Star d) = OpStar d
 op_of (Exists d) = OpExists d
 
 abbrev pub slots_of : List ShelfTable → Asked → ℕ
-slots_of shelf (And c d) = (at_number shelf c).slots
-slots_of shelf (Or c d) = (at_number shelf c).slots
-slots_of shelf (Iff c d) = (at_number shelf c).slots
+slots_of shelf (Joined connective c d) = (at_number shelf c).slots
 slots_of shelf (Chop c d) = (at_number shelf c).slots
 slots_of shelf (Star d) = (at_number shelf d).slots
 -- its operand is over one slot more
@@ -78,9 +73,7 @@ pub record IsWide (shelf : List ShelfTable) (d : ℕ) : Type 0 where
   pub some : 0 < (at_number shelf d).slots
 
 abbrev pub AreOperands : List ShelfTable → Asked → Type 0
-AreOperands shelf (And c d) = AreTwo shelf c d
-AreOperands shelf (Or c d) = AreTwo shelf c d
-AreOperands shelf (Iff c d) = AreTwo shelf c d
+AreOperands shelf (Joined connective c d) = AreTwo shelf c d
 AreOperands shelf (Chop c d) = AreTwo shelf c d
 AreOperands shelf (Star d) = d < length shelf
 AreOperands shelf (Exists d) = IsWide shelf d

@@ -9,13 +9,12 @@
 use Rattle.std.specs.Prelude.{◌≡◌, ℕ, ◌<◌, ◌≤◌, List, [], ◌∷◌, length, Some, slice_get}
 use Rattle.std.specs.Option.{option_map}
 use Rattle.dcv_language.specs.declared.count.Count.{Count}
-use Rattle.dcv_syntax.specs.declared.propositions.Connective.TheVariants as connective
 use Rattle.dcv_core.specs.Core.{PlainBasic}
 use Rattle.dcv_core.specs.Steps.{PlainOp, OpAtom, OpNot, OpJoined, OpChop, OpStar, OpExists, CoreStep, PlainCore}
 use Rattle.dcv_explore.specs.declared.explorer.Limits.{Limits}
 use Rattle.dcv_shelf.specs.Shelf.{ShelfTable}
 use Rattle.dcv_build.specs.declared.asked.Asked.{Asked}
-use Rattle.dcv_build.specs.declared.asked.Asked.TheVariants.{And, Or, Iff, Chop, Star, Exists}
+use Rattle.dcv_build.specs.declared.asked.Asked.TheVariants.{Joined, Chop, Star, Exists}
 use Rattle.dcv_build.specs.declared.tasks.Task.{Task}
 use Rattle.dcv_build.specs.declared.tasks.Task.TheVariants.{Atom, Complement, Operator}
 use Rattle.dcv_build.specs.Asked.{tables_at}
@@ -25,17 +24,13 @@ abbrev pub Here : PlainCore → ℕ → PlainOp → Type 0
 Here core n op = option_map (λ (s : CoreStep). s.op) (slice_get core.steps n) ≡ Some op
 
 abbrev pub op_like : Asked → ℕ → ℕ → PlainOp
-op_like (And a b) c d = OpJoined connective.And c d
-op_like (Or a b) c d = OpJoined connective.Or c d
-op_like (Iff a b) c d = OpJoined connective.Iff c d
+op_like (Joined connective a b) c d = OpJoined connective c d
 op_like (Chop a b) c d = OpChop c d
 op_like (Star a) c d = OpStar d
 op_like (Exists a) c d = OpExists d
 
 abbrev pub numbers_of : Asked → List ℕ
-numbers_of (And a b) = a ∷ b ∷ []
-numbers_of (Or a b) = a ∷ b ∷ []
-numbers_of (Iff a b) = a ∷ b ∷ []
+numbers_of (Joined connective a b) = a ∷ b ∷ []
 numbers_of (Chop a b) = a ∷ b ∷ []
 numbers_of (Star a) = a ∷ []
 numbers_of (Exists a) = a ∷ []

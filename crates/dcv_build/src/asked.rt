@@ -1,11 +1,11 @@
 // What is explored once in a build, and what is known of it from then on.
 
+use dcv_syntax::Connective;
+
 // An operator with the numbers of its operands on the shelf.
 #[derive(Clone, Copy, Debug, PartialEq, Eq, Hash)]
 pub(crate) enum Asked {
-    And(u32, u32),
-    Or(u32, u32),
-    Iff(u32, u32),
+    Joined(Connective, u32, u32),
     Chop(u32, u32),
     Star(u32),
     Exists(u32),

@@ -153,9 +153,7 @@ impl Known {
         ensures { IsTrue result → IsWithin (asked_row self.now.tables asked) self.now.limits }
     {
         match asked {
-            Asked::And(first, second) => self.is_product_within(first, second),
-            Asked::Or(first, second) => self.is_product_within(first, second),
-            Asked::Iff(first, second) => self.is_product_within(first, second),
+            Asked::Joined(_, first, second) => self.is_product_within(first, second),
             _ => false,
         }
     }
@@ -205,24 +203,9 @@ impl Known {
     {
         let (alloc, limits, shelf) = (self.alloc, self.limits, &self.shelf);
         match asked {
-            Asked::And(first, second) => operations::conjunction(
+            Asked::Joined(connective, first, second) => operations::joined(
                 alloc,
-                shelf.view(first),
-                shelf.view(second),
-                limits,
-                step,
-                extent,
-            ),
-            Asked::Or(first, second) => operations::disjunction(
-                alloc,
-                shelf.view(first),
-                shelf.view(second),
-                limits,
-                step,
-                extent,
-            ),
-            Asked::Iff(first, second) => operations::agreement(
-                alloc,
+                connective,
                 shelf.view(first),
                 shelf.view(second),
                 limits,

@@ -1,7 +1,8 @@
 // What is explored for each operator, and how far, of the automata of its operands where they stand on the shelf.
 ghost use Rattle.std.specs.Prelude.{◌≡◌, ◌<◌, ◌-◌, ℕ};
-ghost use Rattle.dcv_language.specs.OperationMachines.{and_machine, or_machine, iff_machine, chop_machine, star_machine, exists_machine};
+ghost use Rattle.dcv_language.specs.OperationMachines.{pair_machine, chop_machine, star_machine, exists_machine};
 ghost use Rattle.dcv_language.specs.Table.{automaton_of};
+ghost use Rattle.dcv_logic.specs.Connectives.{joins};
 ghost use Rattle.dcv_core.specs.Core.{PlainBasic};
 ghost use Rattle.dcv_atoms.specs.AtomRows.{atom_machine};
 ghost use Rattle.dcv_atoms.specs.Parts.{atom_nodes};
@@ -18,6 +19,7 @@ use dcv_explore::Limits;
 use dcv_product::{And, Iff, Or};
 use dcv_project::Exists;
 use dcv_shelf::View;
+use dcv_syntax::Connective;
 use std::alloc::Global;
 
 // A form without a formula in it, with the nodes of its proposition's parts.
@@ -41,9 +43,10 @@ pub(crate) fn atom(
     }
 }
 
-// The words that both accept.
-pub(crate) fn conjunction(
+// The words that both accept, or one or the other, or both or neither.
+pub(crate) fn joined(
     alloc: Global,
+    connective: Connective,
     first: View<'_>,
     second: View<'_>,
     limits: Limits,
@@ -51,39 +54,13 @@ pub(crate) fn conjunction(
     extent: Extent,
 ) -> Result<Explored, BuildFault>
     requires { first.stored.slots ≡ second.stored.slots }
-    ensures { SettlesUpTo extent (and_machine first.entry.stored.slots (automaton_of (view_table first.entry).table) (automaton_of (view_table second.entry).table)) 0 limits step result }
+    ensures { SettlesUpTo extent (pair_machine first.entry.stored.slots (joins connective) (automaton_of (view_table first.entry).table) (automaton_of (view_table second.entry).table)) 0 limits step result }
 {
-    settle(alloc, &And::new(&first, &second), 0, limits, step, extent)
-}
-
-// The words that one or the other accepts.
-pub(crate) fn disjunction(
-    alloc: Global,
-    first: View<'_>,
-    second: View<'_>,
-    limits: Limits,
-    step: u32,
-    extent: Extent,
-) -> Result<Explored, BuildFault>
-    requires { first.stored.slots ≡ second.stored.slots }
-    ensures { SettlesUpTo extent (or_machine first.entry.stored.slots (automaton_of (view_table first.entry).table) (automaton_of (view_table second.entry).table)) 0 limits step result }
-{
-    settle(alloc, &Or::new(&first, &second), 0, limits, step, extent)
-}
-
-// The words that both accept, or neither does.
-pub(crate) fn agreement(
-    alloc: Global,
-    first: View<'_>,
-    second: View<'_>,
-    limits: Limits,
-    step: u32,
-    extent: Extent,
-) -> Result<Explored, BuildFault>
-    requires { first.stored.slots ≡ second.stored.slots }
-    ensures { SettlesUpTo extent (iff_machine first.entry.stored.slots (automaton_of (view_table first.entry).table) (automaton_of (view_table second.entry).table)) 0 limits step result }
-{
-    settle(alloc, &Iff::new(&first, &second), 0, limits, step, extent)
+    match connective {
+        Connective::And => settle(alloc, &And::new(&first, &second), 0, limits, step, extent),
+        Connective::Or => settle(alloc, &Or::new(&first, &second), 0, limits, step, extent),
+        Connective::Iff => settle(alloc, &Iff::new(&first, &second), 0, limits, step, extent),
+    }
 }
 
 // The words of the first, and from their last letter on words of the second.

@@ -25,17 +25,9 @@ pub(crate) fn task_of(core: &Core, step: u32, waiting: &mut Vec<u32>) -> Task
     match core.op(step) {
         Op::Atom(_) => Task::Atom,
         Op::Not(_) => Task::Complement(newest(waiting)),
-        Op::And(_, _) => {
+        Op::Joined(connective, _, _) => {
             let (first, second) = two_newest(waiting);
-            Task::Operator(Asked::And(first, second))
-        }
-        Op::Or(_, _) => {
-            let (first, second) = two_newest(waiting);
-            Task::Operator(Asked::Or(first, second))
-        }
-        Op::Iff(_, _) => {
-            let (first, second) = two_newest(waiting);
-            Task::Operator(Asked::Iff(first, second))
+            Task::Operator(Asked::Joined(connective, first, second))
         }
         Op::Chop(_, _) => {
             let (first, second) = two_newest(waiting);

@@ -8,7 +8,7 @@
 //!
 //! ```text
 //! let mut core = Core::new(alloc, 1);
-//! let p = core.push(Operator::Atom(Basic::Every(Truth::Slot(0))), span, 1)?;
+//! let p = core.push(Operator::Atom(Basic::Bracketed(Bracket::Every, Truth::Slot(0))), span, 1)?;
 //! core.push(Operator::Not(p), span, 1)?;
 //! core.op(1) // Op::Not(0)
 //! ```
@@ -18,6 +18,6 @@ pub mod laws;
 mod steps;
 mod truths;
 
-pub use dcv_syntax::{Direction, Relation as Rel};
+pub use dcv_syntax::{Bracket, Connective, Count, Direction, Relation as Rel};
 pub use steps::{Core, Op, Operator};
 pub use truths::{Basic, Truth};

@@ -5,7 +5,7 @@ ghost use Rattle.dcv_core.specs.Steps.{Pushed};
 ghost use Rattle.dcv_core.specs.StepViews.{plain_op, plain_operator};
 
 use crate::truths::Basic;
-use dcv_syntax::Span;
+use dcv_syntax::{Connective, Span};
 use std::alloc::{AllocError, Global};
 use std::marker::Model;
 
@@ -14,9 +14,7 @@ use std::marker::Model;
 pub enum Op<'a> {
     Atom(&'a Basic),
     Not(u32),
-    And(u32, u32),
-    Or(u32, u32),
-    Iff(u32, u32),
+    Joined(Connective, u32, u32),
     Chop(u32, u32),
     Star(u32),
     /// The operand is over one slot more, the last.
@@ -28,9 +26,7 @@ pub enum Op<'a> {
 pub enum Operator {
     Atom(Basic),
     Not(u32),
-    And(u32, u32),
-    Or(u32, u32),
-    Iff(u32, u32),
+    Joined(Connective, u32, u32),
     Chop(u32, u32),
     Star(u32),
     Exists(u32),
@@ -144,9 +140,7 @@ impl Operator {
         match self {
             Operator::Atom(basic) => Op::Atom(basic),
             Operator::Not(operand) => Op::Not(*operand),
-            Operator::And(first, second) => Op::And(*first, *second),
-            Operator::Or(first, second) => Op::Or(*first, *second),
-            Operator::Iff(first, second) => Op::Iff(*first, *second),
+            Operator::Joined(connective, first, second) => Op::Joined(*connective, *first, *second),
             Operator::Chop(first, second) => Op::Chop(*first, *second),
             Operator::Star(operand) => Op::Star(*operand),
             Operator::Exists(operand) => Op::Exists(*operand),

@@ -47,7 +47,6 @@ impl Moving<'_> {
 
 // The proposition over the slots that it goes to.
 #[cycle(moved)]
-#[tactic(auto, using(dcv_core::proofs::TruthRows::truth_and, dcv_core::proofs::TruthRows::truth_or, dcv_core::proofs::TruthRows::truth_iff))]
 fn moved_truth(truth: &Truth, moving: &Moving<'_>) -> Result<Truth, AllocError>
     requires { IsBelow (length moving.now.places.now + 256 - moving.now.width) (plain_truth truth.now) }
     ensures { IfOk result (λ moved. plain_truth moved ≡ moved_truth moving.now.places.now moving.now.width (plain_truth truth.now)) }
@@ -59,9 +58,10 @@ fn moved_truth(truth: &Truth, moving: &Moving<'_>) -> Result<Truth, AllocError>
             moving.alloc,
             moved_truth(operand, moving)?,
         )?)),
-        Truth::And(operands) => Ok(Truth::And(all_moved(operands, moving)?)),
-        Truth::Or(operands) => Ok(Truth::Or(all_moved(operands, moving)?)),
-        Truth::Iff(operands) => Ok(Truth::Iff(all_moved(operands, moving)?)),
+        Truth::Joined(connective, operands) => Ok(Truth::Joined(
+            *connective,
+            all_moved(operands, moving)?,
+        )),
         Truth::Shift(direction, operand, span) => Ok(Truth::Shift(
             *direction,
             Box::new(moving.alloc, moved_truth(operand, moving)?)?,
@@ -91,19 +91,17 @@ impl Moving<'_> {
     {
         Ok(match basic {
             Basic::Constant(truth) => Basic::Constant(*truth),
-            Basic::Point(truth) => Basic::Point(moved_truth(truth, self)?),
-            Basic::Run(truth) => Basic::Run(moved_truth(truth, self)?),
-            Basic::Every(truth) => Basic::Every(moved_truth(truth, self)?),
-            Basic::Unit(truth) => Basic::Unit(moved_truth(truth, self)?),
+            Basic::Bracketed(bracket, truth) => Basic::Bracketed(
+                *bracket,
+                moved_truth(truth, self)?,
+            ),
             Basic::Slen(relation, number) => Basic::Slen(*relation, *number),
-            Basic::Scount(truth, relation, number) => {
-                Basic::Scount(moved_truth(truth, self)?, *relation, *number)
+            Basic::Counted(count, truth, relation, number) => {
+                Basic::Counted(*count, moved_truth(truth, self)?, *relation, *number)
             }
-            Basic::Sdur(truth, relation, number) => {
-                Basic::Sdur(moved_truth(truth, self)?, *relation, *number)
+            Basic::Track(direction, truth, slot) => {
+                Basic::Track(*direction, moved_truth(truth, self)?, self.slot(*slot))
             }
-            Basic::Back(truth, slot) => Basic::Back(moved_truth(truth, self)?, self.slot(*slot)),
-            Basic::Fore(truth, slot) => Basic::Fore(moved_truth(truth, self)?, self.slot(*slot)),
         })
     }
 
@@ -115,9 +113,7 @@ impl Moving<'_> {
         Ok(match op {
             Op::Atom(basic) => Operator::Atom(self.basic(basic)?),
             Op::Not(operand) => Operator::Not(operand),
-            Op::And(first, second) => Operator::And(first, second),
-            Op::Or(first, second) => Operator::Or(first, second),
-            Op::Iff(first, second) => Operator::Iff(first, second),
+            Op::Joined(connective, first, second) => Operator::Joined(connective, first, second),
             Op::Chop(first, second) => Operator::Chop(first, second),
             Op::Star(operand) => Operator::Star(operand),
             Op::Exists(operand) => Operator::Exists(operand),

@@ -16,7 +16,6 @@ use Rattle.dcv_core.specs.Core.{TruthJoined, truth_operand, PlainTruth, CoreTree
 use Rattle.dcv_scope.specs.CoreOf.{Sight, truth_of, argument_truths, operand_truths, truth_of_call, core_of_macro, core_of, list_core}
 use Rattle.dcv_scope.specs.Expansions.{truths_in, join_of, unit_of, operands_of}
 use Rattle.dcv_core.specs.TruthViews.{truths_of}
-use Rattle.dcv_core.proofs.TruthRows.{truth_and, truth_or, truth_iff}
 
 module _ (sight : Sight) where
   abbrev pub operand_truth : PropOperand → PlainTruth
@@ -55,8 +54,6 @@ module _ (sight : Sight) where
 
     pub core-Chop : (operands : Vec FormulaOperand Global) → core_of sight (plain_formula_kind (Chop operands)) span ≡ listed None operands.items
     core-Chop operands = ap (λ kind. core_of sight kind span) (plain_chop operands)
-
-pub ruleset truth_rows = (truth_and, truth_or, truth_iff)
 
 pub ruleset prop_rows = (truth-Call, truth-Joined)
 

@@ -27,8 +27,8 @@ use crate::measures::MacroMeasure;
 use dcv_core::{Basic, Core, Operator, Truth};
 use dcv_logic::newest;
 use dcv_syntax::{
-    Bracket, Connective, Count, Direction, File, Formula, FormulaKind, FormulaOperand, Macro,
-    MacroBody, Name, Prop, PropKind, PropOperand, Quantifier, Relation, Span, Text, Unary,
+    Bracket, Connective, Direction, File, Formula, FormulaKind, FormulaOperand, Macro, MacroBody,
+    Name, Prop, PropKind, PropOperand, Quantifier, Span, Text, Unary,
 };
 use std::alloc::{AllocError, Global};
 
@@ -203,7 +203,7 @@ impl<'a> Sight<'a> {
             PropKind::Call(name, arguments) => self.named(name, arguments),
             PropKind::Not(operand) => self.opposite(operand),
             PropKind::Joined(connective, operands) => {
-                Ok(joined(*connective, self.prop_operands(operands)?))
+                Ok(Truth::Joined(*connective, self.prop_operands(operands)?))
             }
             PropKind::Implies(premise, conclusion) => self.implication(premise, conclusion),
             PropKind::Shifted(direction, form, operand) => self.shifted(*direction, operand, *form),
@@ -232,7 +232,6 @@ impl<'a> Sight<'a> {
 
     // `P => Q`, which is `!P || Q`
     #[cycle(truths)]
-    #[tactic(auto, using(crate::proofs::TextRows::truth_rows))]
     fn implication(&self, premise: &Prop, conclusion: &Prop) -> Result<Truth, AllocError>
         requires is_sight { IsSight self.now }
         ensures { IfOk result (λ truth. plain_truth truth ≡ TruthJoined Or (truth_operand
@@ -242,7 +241,7 @@ impl<'a> Sight<'a> {
         let mut operands = Vec::new(self.alloc);
         operands.push(self.opposite(premise)?)?;
         operands.push(self.prop(conclusion)?)?;
-        Ok(Truth::Or(operands))
+        Ok(Truth::Joined(Connective::Or, operands))
     }
 
     // A name with its arguments: a variable, parameter or quantified name hides a macro.
@@ -318,45 +317,12 @@ fn reach(first: &FormulaOperand, last: &FormulaOperand) -> Span
     first.span.to(last.span)
 }
 
-#[tactic(auto, using(crate::proofs::TextRows::truth_rows))]
-fn joined(connective: Connective, operands: Vec<Truth>) -> Truth
-    ensures { plain_truth result ≡ TruthJoined connective (truths_of (map plain_truth operands.items)) }
-{
-    match connective {
-        Connective::And => Truth::And(operands),
-        Connective::Or => Truth::Or(operands),
-        Connective::Iff => Truth::Iff(operands),
-    }
-}
-
-fn bracketed(bracket: Bracket, truth: Truth) -> Basic
-    ensures { plain_basic result ≡ BasicBracketed bracket (plain_truth truth) }
-{
-    match bracket {
-        Bracket::Point => Basic::Point(truth),
-        Bracket::Run => Basic::Run(truth),
-        Bracket::Every => Basic::Every(truth),
-        Bracket::Unit => Basic::Unit(truth),
-    }
-}
-
-fn counted(count: Count, truth: Truth, relation: Relation, number: u32) -> Basic
-    ensures { plain_basic result ≡ BasicCounted count (plain_truth truth) relation number }
-{
-    match count {
-        Count::Scount => Basic::Scount(truth, relation, number),
-        Count::Sdur => Basic::Sdur(truth, relation, number),
-    }
-}
-
 // What joins two formulas of a list: a connective, or a chop where there is none.
 fn join(connective: Option<Connective>, first: u32, second: u32) -> Operator
     ensures { plain_operator result ≡ join_op connective first second }
 {
     match connective {
-        Some(Connective::And) => Operator::And(first, second),
-        Some(Connective::Or) => Operator::Or(first, second),
-        Some(Connective::Iff) => Operator::Iff(first, second),
+        Some(connective) => Operator::Joined(connective, first, second),
         None => Operator::Chop(first, second),
     }
 }
@@ -366,10 +332,8 @@ fn unit(connective: Option<Connective>) -> Basic
     ensures { plain_basic result ≡ unit_of connective }
 {
     match connective {
-        Some(Connective::And) => Basic::Constant(true),
-        Some(Connective::Or) => Basic::Constant(false),
-        Some(Connective::Iff) => Basic::Constant(true),
-        None => Basic::Point(Truth::Constant(true)),
+        Some(connective) => Basic::Constant(connective != Connective::Or),
+        None => Basic::Bracketed(Bracket::Point, Truth::Constant(true)),
     }
 }
 
@@ -434,17 +398,29 @@ impl<'a> Sight<'a> {
         let span = formula.span;
         match &formula.kind {
             FormulaKind::Constant(truth) => self.atom(Basic::Constant(*truth), span, core),
-            FormulaKind::Pt => self.atom(Basic::Point(Truth::Constant(true)), span, core),
-            FormulaKind::Ext => self.atom(Basic::Run(Truth::Constant(true)), span, core),
+            FormulaKind::Pt => self.atom(
+                Basic::Bracketed(Bracket::Point, Truth::Constant(true)),
+                span,
+                core,
+            ),
+            FormulaKind::Ext => self.atom(
+                Basic::Bracketed(Bracket::Run, Truth::Constant(true)),
+                span,
+                core,
+            ),
             FormulaKind::Bracketed(bracket, prop) => {
-                self.atom(bracketed(*bracket, self.prop(prop)?), span, core)
+                self.atom(Basic::Bracketed(*bracket, self.prop(prop)?), span, core)
             }
             FormulaKind::Slen(relation, number) => {
                 self.atom(Basic::Slen(*relation, number.value), span, core)
             }
             FormulaKind::Counted(count, prop, relation, number) => {
                 let truth = self.prop(prop)?;
-                self.atom(counted(*count, truth, *relation, number.value), span, core)
+                self.atom(
+                    Basic::Counted(*count, truth, *relation, number.value),
+                    span,
+                    core,
+                )
             }
             FormulaKind::Call(name, arguments) => self.call(name, arguments, span, core),
             FormulaKind::Applied(unary, body) => match unary {
@@ -540,7 +516,11 @@ impl<'a> Sight<'a> {
     {
         let first = self.not(premise, span, core)?;
         let second = self.formula(conclusion, core)?;
-        core.push(Operator::Or(first, second), span, self.slots)
+        core.push(
+            Operator::Joined(Connective::Or, first, second),
+            span,
+            self.slots,
+        )
     }
 
     // `<>D`, which is `true ^ D ^ true`

@@ -2,7 +2,7 @@
 use crate::names::{Name, Span};
 
 /// What joins the operands of a list: `&&`, `||`, or `<=>`, which groups to the left.
-#[derive(Clone, Copy, Debug, PartialEq, Eq)]
+#[derive(Clone, Copy, Debug, PartialEq, Eq, Hash)]
 pub enum Connective {
     And,
     Or,

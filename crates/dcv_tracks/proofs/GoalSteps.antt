@@ -13,12 +13,8 @@ use Rattle.dcv_core.specs.Core.{truth_in, CoreTree, CoreAtom, CoreNot, CoreJoine
 use Rattle.dcv_core.specs.Steps.{PlainOp, PlainStep, CoreStep, without_core, steps_before, steps_from}
 use Rattle.dcv_core.specs.declared.truths.Truth.{Truth}
 use Rattle.dcv_core.specs.TruthViews.{plain_truth, truths_of}
-use Rattle.dcv_core.proofs.TruthRows.{truth_and, truth_or, truth_iff}
 use Rattle.dcv_tracks.specs.Shifting.{Shift, same_truth, same_truths, same_shift, with_shift, collected, all_collected, collected_by, collected_of, bound_by, bound_shift}
 use Rattle.dcv_tracks.specs.ShiftSteps.{step_truth}
-
--- a proposition that holds a vector joins the propositions in it
-pub ruleset list_rows = (truth_and, truth_or, truth_iff)
 
 -- ---- the same but for places
 

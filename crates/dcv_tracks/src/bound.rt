@@ -10,7 +10,6 @@ use dcv_core::{Core, Truth};
 
 // Whether a slot after the declared ones stands in it.
 #[cycle(bound)]
-#[tactic(auto, using(crate::proofs::GoalSteps::list_rows))]
 fn has_bound(declared: u8, truth: &Truth) -> bool
     ensures { result ≡ names_bound declared (plain_truth truth.now) }
 {
@@ -18,9 +17,7 @@ fn has_bound(declared: u8, truth: &Truth) -> bool
         Truth::Constant(_) => false,
         Truth::Slot(slot) => declared <= *slot,
         Truth::Not(operand) | Truth::Shift(_, operand, _) => has_bound(declared, operand),
-        Truth::And(operands) | Truth::Or(operands) | Truth::Iff(operands) => {
-            has_bound_among(declared, operands)
-        }
+        Truth::Joined(_, operands) => has_bound_among(declared, operands),
     }
 }
 
@@ -38,16 +35,13 @@ fn has_bound_among(declared: u8, truths: &[Truth]) -> bool
 
 // Where the first shift of a proposition stands that looks at a quantified variable, the outer one before those in it.
 #[cycle(first)]
-#[tactic(auto, using(crate::proofs::GoalSteps::list_rows))]
 fn bound_within(declared: u8, truth: &Truth) -> Option<u32>
     ensures { result ≡ bound_in declared (plain_truth truth.now) }
 {
     match truth {
         Truth::Constant(_) | Truth::Slot(_) => None,
         Truth::Not(operand) => bound_within(declared, operand),
-        Truth::And(operands) | Truth::Or(operands) | Truth::Iff(operands) => {
-            first_bound_among(declared, operands)
-        }
+        Truth::Joined(_, operands) => first_bound_among(declared, operands),
         Truth::Shift(_, operand, span) => has_bound(declared, operand).then_some(span.start),
     }
 }

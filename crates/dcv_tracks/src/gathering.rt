@@ -68,14 +68,9 @@ fn within(basic: &Basic) -> Option<&Truth>
 {
     match basic {
         Basic::Constant(_) | Basic::Slen(..) => None,
-        Basic::Point(truth)
-        | Basic::Run(truth)
-        | Basic::Every(truth)
-        | Basic::Unit(truth)
-        | Basic::Scount(truth, ..)
-        | Basic::Sdur(truth, ..)
-        | Basic::Back(truth, _)
-        | Basic::Fore(truth, _) => Some(truth),
+        Basic::Bracketed(_, truth) | Basic::Counted(_, truth, ..) | Basic::Track(_, truth, _) => {
+            Some(truth)
+        }
     }
 }
 
@@ -83,7 +78,6 @@ fn within(basic: &Basic) -> Option<&Truth>
 
 // Whether two propositions are the same but for their places.
 #[cycle(same)]
-#[tactic(auto, using(crate::proofs::GoalSteps::list_rows))]
 fn same(one: &Truth, other: &Truth) -> bool
     ensures { result ≡ same_truth (plain_truth one.now) (plain_truth other.now) }
 {
@@ -91,9 +85,9 @@ fn same(one: &Truth, other: &Truth) -> bool
         (Truth::Constant(one), Truth::Constant(other)) => one == other,
         (Truth::Slot(one), Truth::Slot(other)) => one == other,
         (Truth::Not(one), Truth::Not(other)) => same(one, other),
-        (Truth::And(ones), Truth::And(others)) => same_all(ones, others),
-        (Truth::Or(ones), Truth::Or(others)) => same_all(ones, others),
-        (Truth::Iff(ones), Truth::Iff(others)) => same_all(ones, others),
+        (Truth::Joined(one, ones), Truth::Joined(other, others)) => {
+            one == other && same_all(ones, others)
+        }
         (Truth::Shift(direction, one, _), Truth::Shift(other_direction, other, _)) => {
             direction == other_direction && same(one, other)
         }
@@ -163,7 +157,6 @@ fn add<'a>(shift: Shift<'a>, shifts: &mut Vec<Shift<'a>>) -> Result<(), GatherFa
 
 // The shifts of a proposition after those that are there, an inner one before the outer one.
 #[cycle(gather)]
-#[tactic(auto, using(crate::proofs::GoalSteps::list_rows))]
 fn gather<'a>(truth: &'a Truth, shifts: &mut Vec<Shift<'a>>) -> Result<(), GatherFault>
     requires few { length shifts.old.items ≤ most_shifts }
     ensures ok { IfOk result (λ _. map plain_shift shifts.new.items ≡ collected (map plain_shift shifts.old.items) (plain_truth truth.now)) }
@@ -174,9 +167,7 @@ fn gather<'a>(truth: &'a Truth, shifts: &mut Vec<Shift<'a>>) -> Result<(), Gathe
     match truth {
         Truth::Constant(_) | Truth::Slot(_) => Ok(()),
         Truth::Not(operand) => gather(operand, shifts),
-        Truth::And(operands) | Truth::Or(operands) | Truth::Iff(operands) => {
-            gather_all(operands, shifts)
-        }
+        Truth::Joined(_, operands) => gather_all(operands, shifts),
         Truth::Shift(direction, operand, span) => {
             gather(operand, shifts)?;
             let shift = Shift {

@@ -11,7 +11,7 @@ ghost use Rattle.dcv_tracks.specs.ShiftViews.{plain_shift};
 ghost use Rattle.dcv_tracks.specs.ShiftSteps.{with_steps, placed_op, placed_step, closed_step, closed_steps};
 
 use crate::gathering::{Shift, place_of};
-use dcv_core::{Basic, Core, Direction, Op, Operator, Truth};
+use dcv_core::{Basic, Connective, Core, Op, Operator, Truth};
 use std::alloc::{AllocError, Global};
 
 // The shifts of a goal over so many declared variables.
@@ -48,7 +48,6 @@ impl Placing<'_> {
 
     // The proposition, in which slots stand for its shifts.
     #[cycle(placed)]
-    #[tactic(auto, using(crate::proofs::GoalSteps::list_rows))]
     fn truth(&self, truth: &Truth) -> Result<Truth, AllocError>
         requires declared { self.now.declared + length self.now.shifts.now < 256 }
         requires below { IsBelow (256 - length self.now.shifts.now) (plain_truth truth.now) }
@@ -58,9 +57,9 @@ impl Placing<'_> {
             Truth::Constant(truth) => Ok(Truth::Constant(*truth)),
             Truth::Slot(slot) => Ok(Truth::Slot(self.slot(*slot))),
             Truth::Not(operand) => Ok(Truth::Not(Box::new(self.alloc, self.truth(operand)?)?)),
-            Truth::And(operands) => Ok(Truth::And(self.truths(operands)?)),
-            Truth::Or(operands) => Ok(Truth::Or(self.truths(operands)?)),
-            Truth::Iff(operands) => Ok(Truth::Iff(self.truths(operands)?)),
+            Truth::Joined(connective, operands) => {
+                Ok(Truth::Joined(*connective, self.truths(operands)?))
+            }
             Truth::Shift(direction, operand, span) => {
                 let shift = Shift {
                     direction: *direction,
@@ -93,19 +92,14 @@ impl Placing<'_> {
     {
         Ok(match basic {
             Basic::Constant(truth) => Basic::Constant(*truth),
-            Basic::Point(truth) => Basic::Point(self.truth(truth)?),
-            Basic::Run(truth) => Basic::Run(self.truth(truth)?),
-            Basic::Every(truth) => Basic::Every(self.truth(truth)?),
-            Basic::Unit(truth) => Basic::Unit(self.truth(truth)?),
+            Basic::Bracketed(bracket, truth) => Basic::Bracketed(*bracket, self.truth(truth)?),
             Basic::Slen(relation, number) => Basic::Slen(*relation, *number),
-            Basic::Scount(truth, relation, number) => {
-                Basic::Scount(self.truth(truth)?, *relation, *number)
+            Basic::Counted(count, truth, relation, number) => {
+                Basic::Counted(*count, self.truth(truth)?, *relation, *number)
             }
-            Basic::Sdur(truth, relation, number) => {
-                Basic::Sdur(self.truth(truth)?, *relation, *number)
+            Basic::Track(direction, truth, slot) => {
+                Basic::Track(*direction, self.truth(truth)?, self.slot(*slot))
             }
-            Basic::Back(truth, slot) => Basic::Back(self.truth(truth)?, self.slot(*slot)),
-            Basic::Fore(truth, slot) => Basic::Fore(self.truth(truth)?, self.slot(*slot)),
         })
     }
 
@@ -118,9 +112,7 @@ impl Placing<'_> {
         Ok(match op {
             Op::Atom(basic) => Operator::Atom(self.basic(basic)?),
             Op::Not(operand) => Operator::Not(operand),
-            Op::And(first, second) => Operator::And(first, second),
-            Op::Or(first, second) => Operator::Or(first, second),
-            Op::Iff(first, second) => Operator::Iff(first, second),
+            Op::Joined(connective, first, second) => Operator::Joined(connective, first, second),
             Op::Chop(first, second) => Operator::Chop(first, second),
             Op::Star(operand) => Operator::Star(operand),
             Op::Exists(operand) => Operator::Exists(operand),
@@ -164,11 +156,7 @@ impl Placing<'_> {
         requires operand { IsBelow self.now.declared (plain_truth shift.now.operand.now) }
         ensures { IfOk result (λ result. plain_basic result ≡ shift_basic self.now.declared (map plain_shift self.now.shifts.now) (plain_shift shift.now) slot) }
     {
-        let operand = self.truth(shift.operand)?;
-        Ok(match shift.direction {
-            Direction::Prior => Basic::Back(operand, slot),
-            Direction::Next => Basic::Fore(operand, slot),
-        })
+        Ok(Basic::Track(shift.direction, self.truth(shift.operand)?, slot))
     }
 
     // Closes the slot of a shift.
@@ -184,7 +172,11 @@ impl Placing<'_> {
         let goal = core.steps() - 1;
         let track = Operator::Atom(self.track(shift, slot)?);
         let track = core.push(track, shift.span, slot + 1)?;
-        let both = core.push(Operator::And(goal, track), shift.span, slot + 1)?;
+        let both = core.push(
+            Operator::Joined(Connective::And, goal, track),
+            shift.span,
+            slot + 1,
+        )?;
         core.push(Operator::Exists(both), shift.span, slot)?;
         Ok(())
     }

@@ -1,12 +1,15 @@
 use Rattle.std.proofs.Common.{◌≡◌, ◌+◌, ℕ, List, [], map, drop, Err, refl, ap, sym, subst, ◌∙◌, arith}
 use Rattle.std.proofs.lemmas.Result.{err_from_is_err_and}
+use Rattle.std.specs.Result.{IfOk, OnOk}
 use Rattle.dcv_core.specs.declared.truths.Truth.{Truth}
 use Rattle.dcv_core.specs.Core.{PlainTruth, TruthNot, TruthJoined}
 use Rattle.dcv_core.specs.Holds.{truth_holds}
 use Rattle.dcv_core.specs.TruthViews.{plain_truth, truths_of}
+use Rattle.dcv_core.proofs.TruthRows.{is_joined}
+use Rattle.dcv_atoms.specs.Functions.{Means}
 use Rattle.dcv_atoms.specs.declared.faults.AtomFault.TheVariants.{Nodes}
 use Rattle.dcv_atoms.specs.Parts.{parts}
-use Rattle.dcv_atoms.specs.Built.{Exceeds, OnTheWay}
+use Rattle.dcv_atoms.specs.Built.{Builds, Exceeds, OnTheWay}
 use Rattle.dcv_atoms.proofs.FaultFacts.{same_fault}
 use Rattle.dcv_atoms.proofs.ListSteps.{on_ok, if_ok, means_at, operand_exceeds, not_means, not_is, not_builds, not_exceeds, left_is, none_left}
 use Rattle.dcv_atoms.proofs.ListSteps.{way_goes_on, way_exceeds, way_means, way_ends, way_ends_over}
@@ -55,6 +58,21 @@ part-returns-in_ok-root-in-Not-clause-exceeds t c limit e =
     let whole = plain_truth c.args.truth.now in
     not_exceeds old middle root part whole same one.means one.builds limit
     (c.opposite.ensures.exceeds limit part e (not_means old middle root part whole same one.means one.builds))
+
+-- ---- a list
+
+module _ (t : ℕ) (c : goal.part-After-list t) where
+  by_operands : (Holds : PlainTruth → Type 0) → Holds (TruthJoined c.in-Joined.connective (truths_of (map plain_truth c.deref-in-Joined.result.now))) → Holds (plain_truth c.args.truth.now)
+  by_operands Holds = subst Holds (sym (is_joined _ _ c.in-Joined.is c.deref-in-Joined.ensures.value))
+
+pub part-returns-in-Joined-clause-means : goal.part-returns-in-Joined-clause-means
+part-returns-in-Joined-clause-means t c = by_operands t c (λ p. IfOk c.list.result (λ root. Means c.list.new.arena root c.args.arena.now.slots (truth_holds p))) c.list.ensures.means
+
+pub part-returns-in-Joined-clause-builds : goal.part-returns-in-Joined-clause-builds
+part-returns-in-Joined-clause-builds t c = by_operands t c (λ p. OnOk c.list.result (Builds c.args.arena.now c.list.new.arena (parts p))) c.list.ensures.builds
+
+pub part-returns-in-Joined-clause-exceeds : goal.part-returns-in-Joined-clause-exceeds
+part-returns-in-Joined-clause-exceeds t c limit e = by_operands t c (λ p. Exceeds c.args.arena.now (parts p) limit) (c.list.ensures.exceeds limit e)
 
 -- ---- the operands of a list
 

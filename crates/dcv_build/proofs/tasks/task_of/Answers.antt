@@ -1,5 +1,4 @@
 use Rattle.dcv_build.proofs.AtSteps.{not_waits, star_waits, exists_waits, joined_waits, chop_waits}
-use Rattle.dcv_syntax.specs.declared.propositions.Connective.TheVariants as connective
 use Rattle.dcv_build.proofs.tasks.task_of.Goals as goal
 
 pub newest-requires : goal.newest-requires
@@ -10,17 +9,7 @@ newest-requires c =
 pub two_newest-first-requires : goal.two_newest-first-requires
 two_newest-first-requires c =
     let is = c.requires.waiting in
-    joined_waits c.args.core.now is.limits c.args.step is.counts connective.And c.in-And.field-0 c.in-And.field-1 c.requires.core c.in-And.ensures is.shelf c.args.waiting.now.items is.built
-
-pub two_newest-first-requires-in-Or : goal.two_newest-first-requires-in-Or
-two_newest-first-requires-in-Or c =
-    let is = c.requires.waiting in
-    joined_waits c.args.core.now is.limits c.args.step is.counts connective.Or c.in-Or.field-0 c.in-Or.field-1 c.requires.core c.in-Or.ensures is.shelf c.args.waiting.now.items is.built
-
-pub two_newest-first-requires-in-Iff : goal.two_newest-first-requires-in-Iff
-two_newest-first-requires-in-Iff c =
-    let is = c.requires.waiting in
-    joined_waits c.args.core.now is.limits c.args.step is.counts connective.Iff c.in-Iff.field-0 c.in-Iff.field-1 c.requires.core c.in-Iff.ensures is.shelf c.args.waiting.now.items is.built
+    joined_waits c.args.core.now is.limits c.args.step is.counts c.in-Joined.connective c.in-Joined.field-1 c.in-Joined.field-2 c.requires.core c.in-Joined.ensures is.shelf c.args.waiting.now.items is.built
 
 pub two_newest-first-requires-in-Chop : goal.two_newest-first-requires-in-Chop
 two_newest-first-requires-in-Chop c =

@@ -1,43 +1,28 @@
 use Rattle.std.proofs.Common.{◌-◌, sym, subst}
-use Rattle.dcv_language.specs.OperationMachines.{and_machine, or_machine, iff_machine, chop_machine, star_machine, exists_machine}
+use Rattle.dcv_language.specs.OperationMachines.{pair_machine, chop_machine, star_machine, exists_machine}
 use Rattle.dcv_language.specs.Table.{automaton_of}
+use Rattle.dcv_logic.specs.Connectives.{joins}
 use Rattle.dcv_shelf.specs.Stored.{view_table}
 use Rattle.dcv_build.specs.Asked.{KnownValue, AreOperands, SettlesAsked}
 use Rattle.dcv_build.specs.Settled.{SettlesUpTo}
 use Rattle.dcv_build.specs.declared.asked.Asked.{Asked}
-use Rattle.dcv_build.specs.declared.asked.Asked.TheVariants.{And}
+use Rattle.dcv_build.specs.declared.asked.Asked.TheVariants.{Joined}
 use Rattle.dcv_build.proofs.Answered.{from_two, from_one, widths_are}
 use Rattle.dcv_build.proofs.known.Known.explore.Goals as goal
 
-pub conjunction-requires : goal.conjunction-requires
-conjunction-requires c =
+pub joined-requires : goal.joined-requires
+joined-requires c =
     let shelf = c.self.inside.shelf.tables in
-    let are = subst (λ (known : KnownValue). AreOperands known.tables (And c.in-And.first c.in-And.second)) (sym c.self.view_is) (subst (AreOperands c.args.self.now.tables) c.in-And.is c.requires) in
-    widths_are shelf c.in-And.first c.in-And.second are (view_table c.view.result) (view_table c.view-in-And.result) c.view.ensures.table c.view-in-And.ensures.table
+    let are = subst (λ (known : KnownValue). AreOperands known.tables (Joined c.in-Joined.connective c.in-Joined.first c.in-Joined.second)) (sym c.self.view_is) (subst (AreOperands c.args.self.now.tables) c.in-Joined.is c.requires) in
+    widths_are shelf c.in-Joined.first c.in-Joined.second are (view_table c.view.result) (view_table c.view-in-Joined.result) c.view.ensures.table c.view-in-Joined.ensures.table
 
-pub returns-in-And : goal.returns-in-And
-returns-in-And c =
+pub returns-in-Joined : goal.returns-in-Joined
+returns-in-Joined c =
     let inside = c.self.inside in
-    subst (λ (known : KnownValue). SettlesAsked c.args.extent known.tables c.args.asked known.limits c.args.step c.conjunction.result) c.self.view_is
-    (subst (λ (asked : Asked). SettlesAsked c.args.extent inside.shelf.tables asked inside.limits c.args.step c.conjunction.result) (sym c.in-And.is)
-    (from_two inside.shelf.tables (λ slots t u. SettlesUpTo c.args.extent (and_machine slots (automaton_of t) (automaton_of u)) 0 inside.limits c.args.step c.conjunction.result)
-    c.in-And.first c.in-And.second (view_table c.view.result) (view_table c.view-in-And.result) c.view.ensures.table c.view-in-And.ensures.table c.conjunction.ensures))
-
-pub returns-in-Or : goal.returns-in-Or
-returns-in-Or c =
-    let inside = c.self.inside in
-    subst (λ (known : KnownValue). SettlesAsked c.args.extent known.tables c.args.asked known.limits c.args.step c.disjunction.result) c.self.view_is
-    (subst (λ (asked : Asked). SettlesAsked c.args.extent inside.shelf.tables asked inside.limits c.args.step c.disjunction.result) (sym c.in-Or.is)
-    (from_two inside.shelf.tables (λ slots t u. SettlesUpTo c.args.extent (or_machine slots (automaton_of t) (automaton_of u)) 0 inside.limits c.args.step c.disjunction.result)
-    c.in-Or.first c.in-Or.second (view_table c.view-in-Or.result) (view_table c.view-in-Or-2.result) c.view-in-Or.ensures.table c.view-in-Or-2.ensures.table c.disjunction.ensures))
-
-pub returns-in-Iff : goal.returns-in-Iff
-returns-in-Iff c =
-    let inside = c.self.inside in
-    subst (λ (known : KnownValue). SettlesAsked c.args.extent known.tables c.args.asked known.limits c.args.step c.agreement.result) c.self.view_is
-    (subst (λ (asked : Asked). SettlesAsked c.args.extent inside.shelf.tables asked inside.limits c.args.step c.agreement.result) (sym c.in-Iff.is)
-    (from_two inside.shelf.tables (λ slots t u. SettlesUpTo c.args.extent (iff_machine slots (automaton_of t) (automaton_of u)) 0 inside.limits c.args.step c.agreement.result)
-    c.in-Iff.first c.in-Iff.second (view_table c.view-in-Iff.result) (view_table c.view-in-Iff-2.result) c.view-in-Iff.ensures.table c.view-in-Iff-2.ensures.table c.agreement.ensures))
+    subst (λ (known : KnownValue). SettlesAsked c.args.extent known.tables c.args.asked known.limits c.args.step c.joined.result) c.self.view_is
+    (subst (λ (asked : Asked). SettlesAsked c.args.extent inside.shelf.tables asked inside.limits c.args.step c.joined.result) (sym c.in-Joined.is)
+    (from_two inside.shelf.tables (λ slots t u. SettlesUpTo c.args.extent (pair_machine slots (joins c.in-Joined.connective) (automaton_of t) (automaton_of u)) 0 inside.limits c.args.step c.joined.result)
+    c.in-Joined.first c.in-Joined.second (view_table c.view.result) (view_table c.view-in-Joined.result) c.view.ensures.table c.view-in-Joined.ensures.table c.joined.ensures))
 
 pub returns-in-Chop : goal.returns-in-Chop
 returns-in-Chop c =

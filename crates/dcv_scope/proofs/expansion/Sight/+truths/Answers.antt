@@ -1,5 +1,6 @@
-use Rattle.std.proofs.Common.{◌≡◌, List, map, arith, sym, ap, ◌∙◌}
+use Rattle.std.proofs.Common.{rules, ◌≡◌, List, map, arith, sym, ap, ◌∙◌}
 use Rattle.dcv_syntax.specs.declared.propositions.Prop.{Prop, size-Prop}
+use Rattle.dcv_syntax.specs.declared.propositions.Connective.TheVariants.{Or}
 use Rattle.dcv_syntax.specs.Views.{plain_prop_kind, plain_prop, plain_body}
 use Rattle.dcv_logic.specs.Environment.{found}
 use Rattle.dcv_scope.proofs.WorkLeft.{prop_depth, all_bodies, left_after_call}
@@ -10,6 +11,7 @@ use Rattle.dcv_core.specs.TruthViews.{plain_truth, truths_of}
 use Rattle.dcv_scope.specs.Expansions.{sight_of, top_sight_of, truths_in, used_from}
 use Rattle.dcv_scope.proofs.Calls.{prop_called}
 use Rattle.dcv_core.proofs.MadeSteps.{then_ok}
+use Rattle.dcv_core.proofs.TruthRows.{truth_joined}
 use Rattle.dcv_scope.proofs.TextRows.{operand_truth, truth-Call, truth-Joined}
 use Rattle.dcv_scope.proofs.expansion.Sight.+truths.Goals as goal
 
@@ -56,7 +58,10 @@ pub form-returns-in_ok-prop_operands-in-Joined : goal.form-returns-in_ok-prop_op
 form-returns-in_ok-prop_operands-in-Joined t c =
     let sight = sight_of c.args.self.now in
     let connective = c.in-Joined.connective in
-    c.joined.ensures
+    truth_joined connective c.in_ok-prop_operands-in-Joined.field-0
     ∙ ap (λ truths. TruthJoined connective (truths_of truths)) (c.in_ok-prop_operands-in-Joined.ensures ∙ ap (map (operand_truth sight)) c.deref-in-Joined.ensures.value)
     ∙ sym (truth-Joined sight connective c.in-Joined.operands)
     ∙ sym (ap (λ kind. truth_of sight (plain_prop_kind kind)) c.in-Joined.is)
+
+pub implication-returns : goal.implication-returns
+implication-returns t c = truth_joined Or c.push-2.new.self ∙ search (rules)

@@ -1,11 +1,10 @@
 use Rattle.std.proofs.Common.{◌≡◌, ◌-◌, ◌++◌, List, length, map, sym, ap, subst, ◌∙◌, arith, append-nil}
 use Rattle.std.proofs.lemmas.List.{at_drop_all}
 use Rattle.dcv_core.specs.declared.truths.Truth.{Truth}
-use Rattle.dcv_syntax.specs.declared.propositions.Connective.TheVariants as connective
 use Rattle.dcv_core.specs.Core.{TruthNot, TruthJoined}
 use Rattle.dcv_core.specs.Slots.{IsBelow, AreBelow}
 use Rattle.dcv_core.specs.TruthViews.{plain_truth, truths_of}
-use Rattle.dcv_core.proofs.TruthRows.{truth_and, truth_or, truth_iff}
+use Rattle.dcv_core.proofs.TruthRows.{truth_joined, is_joined}
 use Rattle.dcv_tracks.specs.Shifting.{placed}
 use Rattle.dcv_tracks.specs.ShiftViews.{plain_shift}
 use Rattle.dcv_tracks.proofs.GoalSteps.{next_is}
@@ -20,21 +19,15 @@ truth-truth-requires t c =
 
 pub truth-truths-requires : goal.truth-truths-requires
 truth-truths-requires t c =
-    let same : plain_truth c.args.truth.now ≡ TruthJoined connective.And (truths_of (map plain_truth c.deref-in-And.result.now)) =
-    ap plain_truth c.in-And.is ∙ truth_and c.in-And.operands ∙ ap (λ (truths : List Truth). TruthJoined connective.And (truths_of (map plain_truth truths))) (sym c.deref-in-And.ensures.value) in
+    let same = is_joined _ _ c.in-Joined.is c.deref-in-Joined.ensures.value in
     (omega (arith, ap parts same), (c.requires.declared, subst (IsBelow (256 - length c.args.self.now.shifts.now)) same c.requires.below))
 
-pub truth-truths-requires-in-Or : goal.truth-truths-requires-in-Or
-truth-truths-requires-in-Or t c =
-    let same : plain_truth c.args.truth.now ≡ TruthJoined connective.Or (truths_of (map plain_truth c.deref-in-Or.result.now)) =
-    ap plain_truth c.in-Or.is ∙ truth_or c.in-Or.operands ∙ ap (λ (truths : List Truth). TruthJoined connective.Or (truths_of (map plain_truth truths))) (sym c.deref-in-Or.ensures.value) in
-    (omega (arith, ap parts same), (c.requires.declared, subst (IsBelow (256 - length c.args.self.now.shifts.now)) same c.requires.below))
-
-pub truth-truths-requires-in-Iff : goal.truth-truths-requires-in-Iff
-truth-truths-requires-in-Iff t c =
-    let same : plain_truth c.args.truth.now ≡ TruthJoined connective.Iff (truths_of (map plain_truth c.deref-in-Iff.result.now)) =
-    ap plain_truth c.in-Iff.is ∙ truth_iff c.in-Iff.operands ∙ ap (λ (truths : List Truth). TruthJoined connective.Iff (truths_of (map plain_truth truths))) (sym c.deref-in-Iff.ensures.value) in
-    (omega (arith, ap parts same), (c.requires.declared, subst (IsBelow (256 - length c.args.self.now.shifts.now)) same c.requires.below))
+pub truth-returns-in_ok-truths-in-Joined : goal.truth-returns-in_ok-truths-in-Joined
+truth-returns-in_ok-truths-in-Joined t c =
+    let connective = c.in-Joined.connective in
+    truth_joined connective c.in_ok-truths-in-Joined.field-0
+    ∙ ap (TruthJoined connective) c.in_ok-truths-in-Joined.ensures
+    ∙ sym (ap (placed c.args.self.now.declared (map plain_shift c.args.self.now.shifts.now)) (is_joined _ _ c.in-Joined.is c.deref-in-Joined.ensures.value))
 
 pub truths-truth-requires : goal.truths-truth-requires
 truths-truth-requires t c =
