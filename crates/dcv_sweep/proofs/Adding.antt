@@ -1,12 +1,10 @@
 -- What is drawn, and the steps that it adds.
-use Rattle.std.proofs.Common.{◌≡◌, ℕ, zero, suc, ◌+◌, ◌-◌, ◌*◌, ◌≤◌, ◌==◌, Bool, true, false, Result, Ok, Err, IfOk, if◌then◌else◌, [], ◌++◌, length, map, refl, ap, subst, ◌∙◌, arith}
+use Rattle.std.proofs.Common.{◌≡◌, ℕ, zero, suc, ◌+◌, ◌-◌, ◌*◌, ◌≤◌, ◌==◌, Bool, true, false, Option, Some, None, Result, Ok, Err, IfOk, if◌then◌else◌, [], ◌++◌, length, map, refl, ap, subst, ◌∙◌, arith}
 use Rattle.dcv_syntax.specs.declared.names.Span.{Span}
-use Rattle.dcv_syntax.specs.declared.propositions.Connective.TheVariants as connective
+use Rattle.dcv_syntax.specs.declared.propositions.Connective.{Connective}
 use Rattle.dcv_core.specs.Core.{CoreTree}
 use Rattle.dcv_core.specs.Steps.{PlainOp, steps_before, steps_from, steps_of, without_core, PlainCore, Pushed}
 use Rattle.dcv_core.proofs.MadeSteps.{made_length, IsOne, made_one, IsTwo, made_two, joined_is_two, chop_is_two}
-use Rattle.dcv_sweep.specs.declared.formulas.Join.{Join}
-use Rattle.dcv_sweep.specs.declared.formulas.Join.TheVariants.{And, Or, Chop, Iff}
 use Rattle.dcv_sweep.specs.Draw.{next_draw, drawn}
 use Rattle.dcv_sweep.specs.DrawnCores.{Drawn, nowhere, over_one, over_two, operation_of, drawn_core, drawn_formula}
 use Rattle.dcv_sweep.specs.Making.{join_of, join_op, Adds, most_steps}
@@ -67,13 +65,11 @@ pub adds_one : {make : CoreTree → Span → CoreTree} {op : ℕ → PlainOp} {d
     → Adds old (deeper slots) tree middle after operand → Pushed middle (op operand) nowhere slots new last → Adds old slots (over_one make tree) new after last
 adds_one is adds pushed = record { made = made_one is adds.made pushed; state_is = adds.state_is }
 
-join_is_two : (join : Join) → IsTwo (join_of join) (join_op join)
-join_is_two And = joined_is_two connective.And
-join_is_two Or = joined_is_two connective.Or
-join_is_two Chop = chop_is_two
-join_is_two Iff = joined_is_two connective.Iff
+join_is_two : (join : Option Connective) → IsTwo (join_of join) (join_op join)
+join_is_two (Some connective) = joined_is_two connective
+join_is_two None = chop_is_two
 
-pub adds_two : {E : Type 0} (r : Result ℕ E) (join : Join) (old one two new : PlainCore) (slots depth first second state middle after : ℕ) (op : PlainOp)
+pub adds_two : {E : Type 0} (r : Result ℕ E) (join : Option Connective) (old one two new : PlainCore) (slots depth first second state middle after : ℕ) (op : PlainOp)
     → Adds old slots (drawn_core depth slots state) one middle first → Adds one slots (drawn_core depth slots middle) two after second
     → op ≡ join_op join first second → IfOk r (Pushed two op nowhere slots new)
     → IfOk r (Adds old slots (over_two (join_of join) (drawn_core depth slots) state) new after)

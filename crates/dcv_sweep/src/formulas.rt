@@ -7,32 +7,20 @@ ghost use Rattle.dcv_sweep.specs.DrawnCores.{drawn_literal, drawn_atom, over_non
 ghost use Rattle.dcv_sweep.specs.Making.{join_of, join_op, Adds, most_steps};
 
 use crate::generator::Draw;
-use dcv_core::{Basic, Core, Operator, Rel, Truth};
+use dcv_core::{Basic, Bracket, Connective, Core, Count, Operator, Rel, Truth};
 use dcv_syntax::Span;
 use std::alloc::{AllocError, Global};
 
 // What is drawn has no place in a source.
 const NOWHERE: Span = Span { start: 0, end: 0 };
 
-// What joins two formulas.
-#[derive(Clone, Copy, Drop)]
-enum Join {
-    And,
-    Or,
-    Chop,
-    Iff,
-}
-
-impl Join {
-    fn operator(self, first: u32, second: u32) -> Operator
-        ensures { plain_operator result ≡ join_op self first second }
-    {
-        match self {
-            Join::And => Operator::And(first, second),
-            Join::Or => Operator::Or(first, second),
-            Join::Chop => Operator::Chop(first, second),
-            Join::Iff => Operator::Iff(first, second),
-        }
+// What joins two formulas: a connective, or a chop where there is none.
+fn operator(join: Option<Connective>, first: u32, second: u32) -> Operator
+    ensures { plain_operator result ≡ join_op join first second }
+{
+    match join {
+        Some(connective) => Operator::Joined(connective, first, second),
+        None => Operator::Chop(first, second),
     }
 }
 
@@ -87,9 +75,9 @@ fn operation(
             let operand = formula(alloc, core, draw, depth, slots)?;
             core.push(Operator::Not(operand), NOWHERE, slots)
         }
-        2 => joined(alloc, core, draw, Join::And, depth, slots),
-        3 => joined(alloc, core, draw, Join::Or, depth, slots),
-        4 => joined(alloc, core, draw, Join::Chop, depth, slots),
+        2 => joined(alloc, core, draw, Some(Connective::And), depth, slots),
+        3 => joined(alloc, core, draw, Some(Connective::Or), depth, slots),
+        4 => joined(alloc, core, draw, None, depth, slots),
         5 => {
             let operand = formula(alloc, core, draw, depth, slots)?;
             core.push(Operator::Star(operand), NOWHERE, slots)
@@ -98,7 +86,7 @@ fn operation(
             let operand = formula(alloc, core, draw, depth, slots + 1)?;
             core.push(Operator::Exists(operand), NOWHERE, slots)
         }
-        _ => joined(alloc, core, draw, Join::Iff, depth, slots),
+        _ => joined(alloc, core, draw, Some(Connective::Iff), depth, slots),
     }
 }
 
@@ -109,7 +97,7 @@ fn joined(
     alloc: Global,
     core: &mut Core,
     draw: &mut Draw,
-    join: Join,
+    join: Option<Connective>,
     depth: u8,
     slots: u8,
 ) -> Result<u32, AllocError>
@@ -119,7 +107,7 @@ fn joined(
 {
     let first = formula(alloc, core, draw, depth, slots)?;
     let second = formula(alloc, core, draw, depth, slots)?;
-    core.push(join.operator(first, second), NOWHERE, slots)
+    core.push(operator(join, first, second), NOWHERE, slots)
 }
 
 // The step of a form without a formula in it.
@@ -141,12 +129,12 @@ fn basic(alloc: Global, draw: &mut Draw, slots: u8) -> Result<Basic, AllocError>
     let kind = draw.draw(6);
     let truth = literal(alloc, draw, slots)?;
     match kind {
-        0 => Ok(Basic::Point(truth)),
-        1 => Ok(Basic::Run(truth)),
-        2 => Ok(Basic::Every(truth)),
-        3 => Ok(Basic::Unit(truth)),
-        4 => Ok(Basic::Scount(truth, Rel::AtLeast, 1 + draw.draw(4))),
-        _ => Ok(Basic::Sdur(truth, Rel::Less, 1 + draw.draw(4))),
+        0 => Ok(Basic::Bracketed(Bracket::Point, truth)),
+        1 => Ok(Basic::Bracketed(Bracket::Run, truth)),
+        2 => Ok(Basic::Bracketed(Bracket::Every, truth)),
+        3 => Ok(Basic::Bracketed(Bracket::Unit, truth)),
+        4 => Ok(Basic::Counted(Count::Scount, truth, Rel::AtLeast, 1 + draw.draw(4))),
+        _ => Ok(Basic::Counted(Count::Sdur, truth, Rel::Less, 1 + draw.draw(4))),
     }
 }
 
