@@ -1,0 +1,5 @@
+-- what public clauses cite: the form, the rules and faults, a unit of the code as plain data, and the laws
+pub mod Form
+pub mod Reading
+pub mod Seen
+pub mod Laws

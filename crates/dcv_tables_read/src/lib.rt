@@ -1,0 +1,16 @@
+//! Units of constant tables of C, read from their texts.
+//!
+//! ```text
+//! let unit = read(alloc, bytes)?;  // the tables; or the one fault of the text
+//! ```
+//!
+//! The form of the whole text is judged before any number or name.
+#![tactic(auto)]
+
+mod form;
+pub mod laws;
+mod reading;
+mod unit;
+
+pub use reading::read;
+pub use unit::{TableNode, TableState, TableUnit};
