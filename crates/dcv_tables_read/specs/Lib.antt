@@ -2,4 +2,5 @@
 pub mod Form
 pub mod Reading
 pub mod Seen
+pub mod Judged
 pub mod Laws

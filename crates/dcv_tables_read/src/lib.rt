@@ -7,9 +7,12 @@
 //! The form of the whole text is judged before any number or name.
 #![tactic(auto)]
 
+mod array_rules;
 mod form;
-pub mod laws;
+mod names;
+// pub mod laws;
 mod reading;
+mod rules;
 mod unit;
 
 pub use reading::read;

@@ -1,0 +1,6 @@
+-- lemmas of the rules
+mod JudgedWords
+mod NumberLemmas
+mod NameLemmas
+mod RuleLemmas
+mod WholeLemmas
