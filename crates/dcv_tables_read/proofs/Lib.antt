@@ -4,3 +4,5 @@ mod NumberLemmas
 mod NameLemmas
 mod RuleLemmas
 mod WholeLemmas
+mod KeptRules
+mod ReadBack

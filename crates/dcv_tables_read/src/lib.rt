@@ -10,7 +10,7 @@
 mod array_rules;
 mod form;
 mod names;
-// pub mod laws;
+pub mod laws;
 mod reading;
 mod rules;
 mod unit;
