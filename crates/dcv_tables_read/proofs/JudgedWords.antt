@@ -1,5 +1,7 @@
 -- Words are judged in turn.
 use Rattle.std.proofs.Common.{◌≡◌, ℕ, suc, ◌+◌, Bool, true, false, List, [], ◌∷◌, ◌++◌, length, Option, None, Some, Result, Ok, Err, refl, sym, ap, ◌∙◌, subst, arith}
+use Rattle.std.specs.Prelude.{IsTrue}
+use Rattle.std.specs.List.{list_all}
 use Rattle.std.specs.Result.{IsErrAnd}
 use Rattle.std.proofs.lemmas.Result.{err_from_is_err_and}
 use Rattle.dcv_lexer.specs.Cuts.{Token}
@@ -57,3 +59,18 @@ module _ (words others : List Token) (keeps also : List Bool) where
       → IsJudgedWhole (words ++ others) (keeps ++ also) result
   whole_later (Ok whole) many none later = none_before words others keeps also many none ∙ later
   whole_later (Err at) many none later = none_before words others keeps also many none ∙ later
+
+-- ---- where all keep their rules
+
+pub kept_is_unbroken : (words : List Token) (keeps : List Bool) → IsTrue (list_all (λ keeps. keeps) keeps) → first_broken words keeps ≡ None
+kept_is_unbroken [] keeps kept = refl
+kept_is_unbroken (word ∷ words) [] kept = refl
+kept_is_unbroken (word ∷ words) (true ∷ keeps) kept = kept_is_unbroken words keeps kept
+kept_is_unbroken (word ∷ words) (false ∷ keeps) kept = absurd cc
+
+pub unbroken_is_kept : (words : List Token) (keeps : List Bool) → length words ≡ length keeps → first_broken words keeps ≡ None → IsTrue (list_all (λ keeps. keeps) keeps)
+unbroken_is_kept [] [] many none = refl
+unbroken_is_kept [] (b ∷ keeps) many none = absurd (omega (arith, many))
+unbroken_is_kept (word ∷ words) [] many none = refl
+unbroken_is_kept (word ∷ words) (true ∷ keeps) many none = unbroken_is_kept words keeps (omega (arith, many)) none
+unbroken_is_kept (word ∷ words) (false ∷ keeps) many none = absurd cc

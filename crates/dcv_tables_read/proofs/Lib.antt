@@ -6,3 +6,5 @@ mod RuleLemmas
 mod WholeLemmas
 mod KeptRules
 mod ReadBack
+mod SpelledUnits
+mod OneFault
