@@ -14,6 +14,10 @@ use Rattle.dcv_tables_read.specs.Judged.{IsJudgedWhole, variable_numbers, high_n
 use Rattle.dcv_tables_read.proofs.JudgedWords.{stops, whole_stopped, whole_later}
 use Rattle.dcv_tables_read.proofs.RuleLemmas.{array_same, many_rows, many_nodes}
 
+many_parameters : (at : ℕ) (earlier parameters : List (List ℕ)) → length (parameter_words at parameters) ≡ length (keeps_parameters earlier parameters)
+many_parameters at earlier [] = refl
+many_parameters at earlier (name ∷ parameters) = ap suc (many_parameters (at + 4 + length name + 2) (earlier ++ name ∷ []) parameters)
+
 nested : {X : Type 0} (a b c d : List X) → a ++ (b ++ (c ++ d)) ≡ (a ++ (b ++ c)) ++ d
 nested a b c d = sym (append_assoc a (b ++ c) d ∙ ap (λ rest. a ++ rest) (append_assoc b c d))
 
@@ -121,6 +125,13 @@ module _ (tables : Tables) (integer : List ℕ) (is : integer ≡ type_of tables
   unfolding judged
   judged_are =
       ap (λ keeps. keeps_counts tables ++ keeps) (nested (keeps_variables tables) (keeps_highs tables) (keeps_lows tables) (keeps_rows tables ++ keeps_parameters [] tables.parameters))
+
+  pub many_words : length (words_of tables) ≡ length (judged tables)
+  many_words =
+      omega (arith, ap length words_are, ap length judged_are, length-append count (node_words integer arrays tables ++ (rows ++ names)), length-append (node_words integer arrays tables) (rows ++ names),
+      length-append rows names, length-append (keeps_counts tables) (keeps_nodes tables ++ (keeps_rows tables ++ keeps_parameters [] tables.parameters)),
+      length-append (keeps_nodes tables) (keeps_rows tables ++ keeps_parameters [] tables.parameters), length-append (keeps_rows tables) (keeps_parameters [] tables.parameters),
+      many_nodes integer arrays tables, many_rows tables integer row_head after_nodes, many_parameters names_at [] tables.parameters)
 
   module _ {Whole : Type 0} (result : Result Whole ℕ) where
     whole_is : IsJudgedWhole (count ++ (node_words integer arrays tables ++ (rows ++ names))) (keeps_counts tables ++ (keeps_nodes tables ++ (keeps_rows tables ++ keeps_parameters [] tables.parameters))) result

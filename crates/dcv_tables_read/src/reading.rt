@@ -5,6 +5,9 @@ ghost use Rattle.dcv_observer.specs.declared.fault.ObsFault.TheVariants.{Memory}
 ghost use Rattle.dcv_tables_read.specs.Reading.{HasFault, IsReadAs};
 ghost use Rattle.dcv_tables_read.specs.Seen.{seen_tables};
 
+use crate::form::read_form;
+use crate::laws::texts_are_units_or_at_fault;
+use crate::rules::judge;
 use crate::unit::TableUnit;
 use dcv_observer::ObsFault;
 use std::alloc::Global;
@@ -16,5 +19,13 @@ pub fn read<'a>(alloc: Global, text: &'a [u8]) -> Result<TableUnit<'a>, ObsFault
     ensures no_fault { OnOk result ((fault : Fault) → HasFault text.now fault → ⊥) }
     ensures fault { IfErr result (λ fault. fault ≢ Memory → HasFault text.now fault) }
 {
-    Err(ObsFault::Memory)
+    texts_are_units_or_at_fault();
+    let unit = read_form(alloc, text)?;
+    match judge(&unit) {
+        Ok(()) => Ok(unit),
+        Err(at) => {
+            drop(unit);
+            Err(ObsFault::Names { at })
+        }
+    }
 }
