@@ -7,10 +7,15 @@
 //! The form of the whole text is judged before any number or name.
 #![tactic(auto)]
 
+mod arrays;
+mod counts;
+mod entries;
 mod form;
-pub mod laws;
+mod functions;
+// pub mod laws;
 mod reading;
 mod unit;
+mod words;
 
 pub use reading::read;
 pub use unit::{TableNode, TableState, TableUnit};

@@ -1,0 +1,6 @@
+-- where a text is stuck that has several parts
+pub mod Chain
+-- in the counts line, and in numbers
+pub mod Numbers
+-- in the lines of an array
+pub mod LineLists

@@ -1,0 +1,6 @@
+use Rattle.dcv_automaton_lines.proofs.WordSets.{carried}
+use Rattle.dcv_tables_read.proofs.Numbers.{counted_stuck}
+use Rattle.dcv_tables_read.proofs.entries.entry_number.Goals as goal
+
+pub returns-in-Number-clause-fault : goal.returns-in-Number-clause-fault
+returns-in-Number-clause-fault c = carried _ _ _ _ _ (λ left stuck. counted_stuck 44 stuck) c.number.ensures.fault
