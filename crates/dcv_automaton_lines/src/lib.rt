@@ -18,4 +18,4 @@ pub use lines::{
 };
 pub use reading::{LinesFault, lines_of};
 pub use stop::{Stop, Stuck};
-pub use words::{literal, number};
+pub use words::{begins_with, literal, number};

@@ -165,6 +165,32 @@ module _ {X : Type 0} {valid : X → Type 0} (spelled : X → List ℕ) where
   unique_tail tail unique = λ x y a b x_is y_is same.
       unique x y (tail x ++ a) (tail y ++ b) x_is y_is (sym (append_assoc (spelled x) (tail x) a) ∙ same ∙ append_assoc (spelled y) (tail y) b)
 
+-- ---- a word in parts, read one after another
+
+-- of the whole this part is left, and this of the text
+pub record ReadSoFar (whole text part rest : List ℕ) : Type 0 where
+  pub spelled : (behind : List ℕ) → rest ≡ part ++ behind → text ≡ whole ++ behind
+  pub fault : (left : List ℕ) → IsStuckIn (Exactly part) rest left → IsStuckIn (Exactly whole) text left
+
+pub none_read : (whole text : List ℕ) → ReadSoFar whole text whole text
+none_read whole text = record { spelled = λ behind is. is; fault = λ left stuck. stuck }
+
+module _ {whole text part rest : List ℕ} (so_far : ReadSoFar whole text part rest) (word more : List ℕ) (parts : part ≡ word ++ more) where
+  pub part_stuck : {left : List ℕ} → IsStuckIn (Exactly word) rest left → IsStuckIn (Exactly whole) text left
+  part_stuck {left = left} stuck =
+      so_far.fault left (subst (λ (part : List ℕ). IsStuckIn (Exactly part) rest left) (sym parts) (stuck_in_front word more stuck))
+
+  pub part_read : {behind : List ℕ} → rest ≡ word ++ behind → ReadSoFar whole text more behind
+  part_read read =
+      record {
+        spelled = λ end is. so_far.spelled end (read ∙ ap (λ t. word ++ t) is ∙ sym (append_assoc word more end) ∙ ap (λ t. t ++ end) (sym parts));
+        fault = λ left stuck.
+            so_far.fault left (subst (λ (part : List ℕ). IsStuckIn (Exactly part) rest left) (sym parts) (stuck_in_back word more read stuck));
+      }
+
+pub all_read : {whole text part rest : List ℕ} → ReadSoFar whole text part rest → part ≡ [] → text ≡ whole ++ rest
+all_read {rest = rest} so_far none = so_far.spelled rest (ap (λ t. t ++ rest) (sym none))
+
 -- ---- exits
 
 module _ {T : Type 0} (P : List ℕ → Type 0) (text : List ℕ) where

@@ -4,3 +4,7 @@ pub mod Chain
 pub mod Numbers
 -- in the lines of an array
 pub mod LineLists
+-- in names of parameters
+pub mod NameLists
+-- in arrays
+pub mod ArrayTexts

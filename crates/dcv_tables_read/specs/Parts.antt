@@ -79,8 +79,8 @@ CountsSet = Spellings AreCounts counts_text
 
 -- a number of seven digits at most, or 0 or 1
 abbrev pub IsEntry : Entry → ℕ → Type 0
-IsEntry Number number = IsNumber number
-IsEntry Answer number = number < 2
+IsEntry Number = IsNumber
+IsEntry Answer = λ number. number < 2
 
 abbrev pub EntrySet : Entry → List ℕ → Type 0
 EntrySet entry = Spellings (IsEntry entry) (ended 44)

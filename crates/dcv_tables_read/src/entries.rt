@@ -4,7 +4,7 @@ ghost use Rattle.dcv_automaton_lines.specs.Stops.{IsStuckAt, IsStuckStop};
 ghost use Rattle.dcv_tables_read.specs.declared.entries.Entry.TheVariants.{Answer};
 ghost use Rattle.dcv_tables_read.specs.Parts.{IsEntry, ended, EntrySet, line_text, LineSet, AreEntries, lines_text, LinesOf};
 
-use dcv_automaton_lines::{Stop, Stuck, literal, number};
+use dcv_automaton_lines::{Stop, Stuck, begins_with, literal, number};
 use std::alloc::Global;
 
 /// What an array has on each of its lines.
@@ -22,7 +22,7 @@ fn answer<'a>(text: &'a [u8]) -> Result<(u32, &'a [u8]), Stuck<'a>>
     ensures spelled { IfOk result (λ read. text.now ≡ ended 44 read.0 ++ read.1.now) }
     ensures fault { IsStuckAt (EntrySet Answer) text.now result }
 {
-    if !text.is_empty() && text[0] == b'1' {
+    if begins_with(text, b'1') {
         let rest = literal(text, b"1,")?;
         return Ok((1, rest));
     }

@@ -1,12 +1,12 @@
 // The functions.
-ghost use Rattle.std.specs.Prelude.{◌≡◌, ◌++◌, map, codes, if◌then◌else◌, IfOk};
+ghost use Rattle.std.specs.Prelude.{◌≡◌, ◌++◌, map, IfOk};
 ghost use Rattle.std.specs.List.{enumerate_from};
 ghost use Rattle.dcv_automaton_lines.specs.Pieces.{Exactly};
 ghost use Rattle.dcv_automaton_lines.specs.Stops.{IsStuckAt, IsStuckStop};
 ghost use Rattle.dcv_observer.specs.Layouts.{Each, Word};
 ghost use Rattle.dcv_c_tables.specs.Layout.{text_in, letter_line, if_some};
 ghost use Rattle.dcv_c_tables.specs.Observer.{parameter_name};
-ghost use Rattle.dcv_tables_read.specs.Parts.{AreNames, names_text, NamesOf, parameters_text, ParametersSet, body_text, step_text, StepSet};
+ghost use Rattle.dcv_tables_read.specs.Parts.{AreNames, StopsNames, after_name, names_text, NamesOf, parameters_text, ParametersSet, body_text, step_text, StepSet};
 ghost use Rattle.dcv_tables_read.specs.Values.{words_in};
 
 use crate::words::{name, pieces};
@@ -27,18 +27,20 @@ fn names<'a>(
     let mut names: Vec<&'a [u8]> = Vec::new(alloc);
     let mut rest = text;
     while names.len() < count as usize {
-        let (next, behind) = name(rest, after_name(names.len() + 1 == count as usize))?;
+        let more = count as usize - names.len() - 1;
+        let (next, behind) = name(rest, after_name(more))?;
         names.push(next)?;
         rest = behind;
     }
     Ok((names, rest))
 }
 
-// What stands after a name.
-fn after_name(is_last: bool) -> &'static [u8]
-    ensures { result.now ≡ (if is_last then codes ")\n{\n" else codes ", int v_") }
+// What stands after a name with so many behind it.
+fn after_name(more: usize) -> &'static [u8]
+    ensures stops { StopsNames result.now }
+    ensures is { result.now ≡ after_name more }
 {
-    if is_last { b")\n{\n" } else { b", int v_" }
+    if more == 0 { b")\n{\n" } else { b", int v_" }
 }
 
 // The parameters of a step, and the text after the brace that opens it.

@@ -1,6 +1,6 @@
 // Words are read from the front of a text.
-ghost use Rattle.std.specs.Prelude.{◌≡◌, ◌++◌, ◌∷◌, [], List, ℕ, false, IsTrue, IfOk, length, slice_index, slice_index_or};
-ghost use Rattle.std.specs.List.{flat_map, prefix_len};
+ghost use Rattle.std.specs.Prelude.{◌≡◌, ◌<◌, ◌≤◌, ◌++◌, true, false, length, take, slice_index, IfOk};
+ghost use Rattle.std.specs.List.{flat_map, list_all};
 ghost use Rattle.dcv_tokens.specs.Tokens.{is_word_byte};
 ghost use Rattle.dcv_automaton_lines.specs.Pieces.{Exactly};
 ghost use Rattle.dcv_automaton_lines.specs.Stops.{IsStuckAt};
@@ -29,9 +29,16 @@ fn is_word_byte(byte: u8) -> bool
 
 // How many letters, digits and `_` stand at the front.
 fn word_length(text: &[u8]) -> usize
-    ensures { result ≡ prefix_len is_word_byte text.now }
+    ensures within { result ≤ length text.now }
+    ensures all { list_all is_word_byte (take result text.now) ≡ true }
+    ensures ends { result < length text.now → is_word_byte (slice_index text.now result) ≡ false }
 {
-    text.iter().take_while(|byte| is_word_byte(**byte)).count()
+    for (place, byte) in text.iter().enumerate() {
+        if !is_word_byte(*byte) {
+            return place;
+        }
+    }
+    text.len()
 }
 
 /// A name, and the text after what ends it.
