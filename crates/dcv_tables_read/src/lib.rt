@@ -8,12 +8,17 @@
 #![tactic(auto)]
 
 mod array_rules;
+mod arrays;
+mod counts;
+mod entries;
 mod form;
-mod names;
+mod functions;
 pub mod laws;
+mod names;
 mod reading;
 mod rules;
 mod unit;
+mod words;
 
 pub use reading::read;
 pub use unit::{TableNode, TableState, TableUnit};
