@@ -26,3 +26,5 @@ mod ReadBack
 mod SpelledUnits
 -- and has one fault at most
 mod OneFault
+-- worked units
+pub mod ReadExamples

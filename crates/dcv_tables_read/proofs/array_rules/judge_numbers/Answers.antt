@@ -1,6 +1,6 @@
-use Rattle.std.proofs.Common.{◌≡◌, ◌+◌, length, refl, sym, ap, ◌∙◌, arith}
+use Rattle.std.proofs.Common.{◌+◌, length, sym, ap, ◌∙◌, arith}
 use Rattle.dcv_c_tables.specs.Layout.{text_in, number_line}
-use Rattle.dcv_tables_read.proofs.NumberLemmas.{IsLeft, at_start, line_size, room, one_more, stops_here, all_kept}
+use Rattle.dcv_tables_read.proofs.NumberLemmas.{room, one_more, stops_here, all_kept}
 use Rattle.dcv_tables_read.proofs.array_rules.judge_numbers.Goals as goal
 
 pub after_line-at-requires : goal.after_line-at-requires

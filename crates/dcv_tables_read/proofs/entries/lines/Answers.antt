@@ -1,5 +1,5 @@
 use Rattle.std.proofs.Common.{arith}
-use Rattle.dcv_tables_read.proofs.Chain.{stops, no_memory}
+use Rattle.dcv_tables_read.proofs.Chain.{stops}
 use Rattle.dcv_tables_read.proofs.LineLists.{no_lines, line_stuck, line_read, lines_read}
 use Rattle.dcv_tables_read.proofs.entries.lines.Goals as goal
 

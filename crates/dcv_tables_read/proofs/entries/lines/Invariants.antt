@@ -1,4 +1,4 @@
-use Rattle.std.proofs.Common.{ℕ, ◌-◌, length}
+use Rattle.std.proofs.Common.{◌-◌, length}
 use Rattle.dcv_tables_read.proofs.LineLists.{LinesSoFar}
 use Rattle.dcv_tables_read.proofs.entries.lines.Given as goal
 

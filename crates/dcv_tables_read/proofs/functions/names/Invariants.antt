@@ -1,4 +1,4 @@
-use Rattle.std.proofs.Common.{ℕ, ◌-◌, length}
+use Rattle.std.proofs.Common.{◌-◌, length}
 use Rattle.dcv_tables_read.specs.Values.{words_in}
 use Rattle.dcv_tables_read.proofs.NameLists.{NamesSoFar}
 use Rattle.dcv_tables_read.proofs.functions.names.Given as goal

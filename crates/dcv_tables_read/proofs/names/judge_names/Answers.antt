@@ -1,7 +1,5 @@
-use Rattle.std.proofs.Common.{◌≡◌, ◌+◌, ◌<◌, ◌≤◌, [], get_or, length, take, refl, sym, ap, ◌∙◌, arith}
-use Rattle.std.specs.Borrow.{Bor}
-use Rattle.dcv_tables_read.specs.Judged.{parameters_of, parameters_size}
-use Rattle.dcv_tables_read.proofs.NameLemmas.{Name, IsLeft, judged_same, at_start, room, one_more, stops_here, all_kept}
+use Rattle.std.proofs.Common.{[], get_or, take, sym, ◌∙◌, arith}
+use Rattle.dcv_tables_read.proofs.NameLemmas.{Name, judged_same, at_start, room, one_more, stops_here, all_kept}
 use Rattle.dcv_tables_read.proofs.names.judge_names.Goals as goal
 
 abbrev nothing : Name

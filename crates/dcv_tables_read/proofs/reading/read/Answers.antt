@@ -1,8 +1,7 @@
-use Rattle.std.proofs.Common.{◌≡◌, length, refl, sym, ap, subst, ◌∙◌, arith}
+use Rattle.std.proofs.Common.{length, refl, sym, ap, subst, arith}
 use Rattle.std.proofs.lemmas.Result.{err_from_is_err_and}
 use Rattle.dcv_c_tables.specs.Layout.{type_of}
 use Rattle.dcv_tables_read.specs.Reading.{HasFault, IsReadAs, words_of, judged}
-use Rattle.dcv_tables_read.specs.Judged.{IsJudgedWhole}
 use Rattle.dcv_tables_read.specs.Seen.{seen_tables}
 use Rattle.dcv_tables_read.proofs.JudgedWords.{unbroken_is_kept}
 use Rattle.dcv_tables_read.proofs.WholeLemmas.{many_words}

@@ -1,7 +1,7 @@
-use Rattle.std.proofs.Common.{◌≡◌, ◌+◌, length, ap, ◌∙◌, arith}
+use Rattle.std.proofs.Common.{arith}
 use Rattle.dcv_c_tables.specs.Unit.{TableNode}
 use Rattle.dcv_c_tables.specs.Layout.{low_head}
-use Rattle.dcv_tables_read.specs.Seen.{seen_node, seen_tables}
+use Rattle.dcv_tables_read.specs.Seen.{seen_node}
 use Rattle.dcv_tables_read.proofs.NumberLemmas.{array_end, array_judged, children_of}
 use Rattle.dcv_tables_read.proofs.rules.judge_lows.Goals as goal
 

@@ -1,4 +1,4 @@
-use Rattle.std.proofs.Common.{◌≡◌, ◌+◌, ◌<◌, length, ap, ◌∙◌, arith}
+use Rattle.std.proofs.Common.{◌≡◌, ◌<◌, length, arith}
 use Rattle.std.proofs.lemmas.List.{length-map}
 use Rattle.dcv_tables_read.specs.Seen.{seen_node, seen_tables}
 use Rattle.dcv_tables_read.proofs.RuleLemmas.{node_sizes, no_nodes, at_variables, at_highs, at_lows}

@@ -1,7 +1,7 @@
-use Rattle.std.proofs.Common.{◌≡◌, ◌+◌, length, ap, ◌∙◌, arith}
+use Rattle.std.proofs.Common.{◌+◌, arith}
 use Rattle.dcv_c_tables.specs.Unit.{TableState}
 use Rattle.dcv_c_tables.specs.Layout.{row_head}
-use Rattle.dcv_tables_read.specs.Seen.{seen_state, seen_tables}
+use Rattle.dcv_tables_read.specs.Seen.{seen_state}
 use Rattle.dcv_tables_read.proofs.NumberLemmas.{array_end, array_judged, rows_of}
 use Rattle.dcv_tables_read.proofs.rules.judge_rows.Goals as goal
 

@@ -1,8 +1,5 @@
-use Rattle.std.proofs.Common.{◌≡◌, ◌<◌, length, take, sym, ap, ◌∙◌, subst, arith}
-use Rattle.std.proofs.lemmas.List.{length-take-le}
-use Rattle.dcv_tokens.specs.Tokens.{is_word_byte}
-use Rattle.dcv_automaton_lines.proofs.WordSets.{passes, front_at, cut_at, left_at}
-use Rattle.dcv_tables_read.specs.Form.{IsNameWord}
+use Rattle.std.proofs.Common.{take}
+use Rattle.dcv_automaton_lines.proofs.WordSets.{passes, front_at, cut_at}
 use Rattle.dcv_tables_read.proofs.NameLists.{no_name_stuck, name_end_stuck, word_is}
 use Rattle.dcv_tables_read.proofs.words.name.Goals as goal
 
