@@ -8,3 +8,5 @@ pub mod LineLists
 pub mod NameLists
 -- in arrays
 pub mod ArrayTexts
+-- in the functions
+pub mod StepTexts
