@@ -245,3 +245,136 @@ module _ (integer : List ℕ) (count : ℕ) (some : 0 < count) where
           whole ∙ ap (λ t. variables_text variables ++ t) (next ∙ ap (λ t. highs_text integer highs ++ t) last ∙ sym (append_assoc (highs_text integer highs) (lows_text integer lows) rest))
           ∙ sym (append_assoc (variables_text variables) (highs_text integer highs ++ lows_text integer lows) rest)
           ∙ ap (λ t. t ++ rest) (nodes_spelled nodes variables highs lows of (nodes_of_numbers nodes variables highs lows of variables_are highs_are lows_are))
+
+abbrev no_nodes : (integer : List ℕ) → Exactly [] (nodes_text integer [])
+no_nodes integer = record { is = refl }
+
+pub none_is : AreNodes 0 []
+none_is = record { many = refl; each = All-nil IsSmallNode }
+
+-- ---- of the states
+
+abbrev row_of : TableState → ℕ
+row_of state = state.row
+
+abbrev accepts_of : TableState → Bool
+accepts_of state = state.accepts
+
+abbrev number_of : TableState → ℕ
+number_of state = accept_number state.accepts
+
+abbrev rows_text : List ℕ → List ℕ → List ℕ
+rows_text integer = array_text integer row_head
+
+abbrev accepts_text : List ℕ → List ℕ
+accepts_text = array_text char_type accept_head
+
+states_are : (integer : List ℕ) (states : List TableState) → states_text integer states ≡ rows_text integer (map row_of states) ++ accepts_text (map number_of states)
+states_are integer states = λ i.
+    (opening_text integer row_head ++ (each_is row_of states i ++ closing_text)) ++ (opening_text char_type accept_head ++ (each_is number_of states i ++ closing_text))
+
+-- 0 and 1 as answers
+answer_number : (number : ℕ) → number < 2 → accept_number (nat_eq 1 number) ≡ number
+answer_number zero small = refl
+answer_number (suc zero) small = refl
+answer_number (suc (suc number)) small = absurd (omega (arith, small))
+
+abbrev answers : List ℕ → List Bool
+answers numbers = map (nat_eq 1) numbers
+
+-- states with these rows and answers
+abbrev state_list : List ℕ → List ℕ → List TableState
+state_list [] accepts = []
+state_list (row ∷ rows) [] = []
+state_list (row ∷ rows) (accept ∷ accepts) = record { row = row; accepts = nat_eq 1 accept } ∷ state_list rows accepts
+
+pub record AreStatesOf (states : List TableState) (rows accepts : List ℕ) : Type 0 where
+  pub rows_are : map row_of states ≡ rows
+  pub accepts_are : map accepts_of states ≡ answers accepts
+
+state_list_is : (rows accepts : List ℕ) → length accepts ≡ length rows → AreStatesOf (state_list rows accepts) rows accepts
+state_list_is [] [] same = record { rows_are = refl; accepts_are = refl }
+state_list_is [] (accept ∷ accepts) same = absurd (omega (arith, same))
+state_list_is (row ∷ rows) [] same = absurd (omega (arith, same))
+state_list_is (row ∷ rows) (accept ∷ accepts) same =
+    let rest = state_list_is rows accepts (omega (arith, same)) in
+    record { rows_are = ap (λ xs. row ∷ xs) rest.rows_are; accepts_are = ap (λ xs. nat_eq 1 accept ∷ xs) rest.accepts_are }
+
+-- the numbers of answers
+numbers_are : (states : List TableState) (accepts : List ℕ) → All (IsEntry Answer) accepts → map accepts_of states ≡ answers accepts → map number_of states ≡ accepts
+numbers_are [] [] small same = refl
+numbers_are [] (accept ∷ accepts) small same = absurd (let none : 0 ≡ suc (length (answers accepts)) = ap length same in omega (arith, none))
+numbers_are (state ∷ states) [] small same = absurd (let none : suc (length (map accepts_of states)) ≡ 0 = ap length same in omega (arith, none))
+numbers_are (state ∷ states) (accept ∷ accepts) small same =
+    let first : state.accepts ≡ nat_eq 1 accept = cc in
+    let rest : map accepts_of states ≡ answers accepts = cc in
+    λ i. (ap accept_number first ∙ answer_number accept (All-head (IsEntry Answer) accept accepts small)) i
+        ∷ numbers_are states accepts (All-tail (IsEntry Answer) accept accepts small) rest i
+
+small_states : (states : List TableState) → All IsNumber (map row_of states) → All IsSmallState states
+small_states [] rows = All-nil IsSmallState
+small_states (state ∷ states) rows =
+    All-cons IsSmallState state states (record { row = All-head IsNumber state.row (map row_of states) rows })
+    (small_states states (All-tail IsNumber state.row (map row_of states) rows))
+
+answer_is_small : (accepts : Bool) → accept_number accepts < 2
+answer_is_small true = omega arith
+answer_is_small false = omega arith
+
+small_answers : (states : List TableState) → All (IsEntry Answer) (map number_of states)
+small_answers [] = All-nil (IsEntry Answer)
+small_answers (state ∷ states) = All-cons (IsEntry Answer) (number_of state) (map number_of states) (answer_is_small state.accepts) (small_answers states)
+
+module _ (integer : List ℕ) (count : ℕ) where
+  abbrev AcceptsAfter : List ℕ → Type 0
+  AcceptsAfter = ArraySet Answer char_type accept_head count
+
+  abbrev BothArrays : List ℕ → Type 0
+  BothArrays = Then (AreEntries Number count) (rows_text integer) (λ _. AcceptsAfter)
+
+  pub states_of_numbers : (states : List TableState) (rows accepts : List ℕ) → AreStatesOf states rows accepts → AreEntries Number count rows → AreStates count states
+  states_of_numbers states rows accepts of r =
+      record { many = sym (map_length row_of states) ∙ ap length of.rows_are ∙ r.many; each = small_states states (subst (All IsNumber) (sym of.rows_are) r.each) }
+
+  states_spelled : (states : List TableState) (rows accepts : List ℕ) → AreStatesOf states rows accepts → AreEntries Answer count accepts
+      → rows_text integer rows ++ accepts_text accepts ≡ states_text integer states
+  states_spelled states rows accepts of a =
+      (λ i. rows_text integer (sym of.rows_are i) ++ accepts_text (sym (numbers_are states accepts a.each of.accepts_are) i)) ∙ sym (states_are integer states)
+
+  both_from : (text : List ℕ) → BothArrays text → StatesSet integer count text
+  both_from text is =
+      let accepts = is.back_is in
+      let of = state_list_is is.item accepts.item (accepts.valid_item.many ∙ sym is.valid_item.many) in
+      let states = state_list is.item accepts.item in
+      record {
+        item = states;
+        valid_item = states_of_numbers states is.item accepts.item of is.valid_item;
+        is = is.whole ∙ ap (λ t. rows_text integer is.item ++ t) accepts.is ∙ states_spelled states is.item accepts.item of accepts.valid_item;
+      }
+
+  both_into : (text : List ℕ) → StatesSet integer count text → BothArrays text
+  both_into text is =
+      let states = is.item in
+      record {
+        item = map row_of states;
+        valid_item = record { many = map_length row_of states ∙ is.valid_item.many; each = all_map row_of IsSmallState (λ state small. small.row) states is.valid_item.each };
+        back = accepts_text (map number_of states);
+        back_is = record { item = map number_of states; valid_item = record { many = map_length number_of states ∙ is.valid_item.many; each = small_answers states }; is = refl };
+        whole = is.is ∙ states_are integer states;
+      }
+
+  both_stuck : {text left : List ℕ} → IsStuckIn BothArrays text left → IsStuckIn (StatesSet integer count) text left
+  both_stuck stuck = stuck_same both_from both_into stuck
+
+  pub in_rows : {text left : List ℕ} → IsStuckIn (ArraySet Number integer row_head count) text left → IsStuckIn (StatesSet integer count) text left
+  in_rows stuck = both_stuck (stuck_first (λ _ _. some_array Answer char_type accept_head count) stuck)
+
+  module _ (text one rows : List ℕ) (rows_are : AreEntries Number count rows) (whole : text ≡ rows_text integer rows ++ one) where
+    pub in_accepts : {left : List ℕ} → IsStuckIn (ArraySet Answer char_type accept_head count) one left → IsStuckIn (StatesSet integer count) text left
+    in_accepts stuck = both_stuck (stuck_next (unique_array Number integer row_head count) rows rows_are whole stuck)
+
+    pub states_read : (rest accepts : List ℕ) → AreEntries Answer count accepts → one ≡ accepts_text accepts ++ rest → (states : List TableState) → AreStatesOf states rows accepts
+        → text ≡ states_text integer states ++ rest
+    states_read rest accepts accepts_are last states of =
+        whole ∙ ap (λ t. rows_text integer rows ++ t) last ∙ sym (append_assoc (rows_text integer rows) (accepts_text accepts) rest)
+        ∙ ap (λ t. t ++ rest) (states_spelled states rows accepts of accepts_are)

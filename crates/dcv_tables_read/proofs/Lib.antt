@@ -8,6 +8,8 @@ pub mod LineLists
 pub mod NameLists
 -- in arrays
 pub mod ArrayTexts
+-- in the functions
+pub mod StepTexts
 -- words are judged in turn
 mod JudgedWords
 -- those of an array

@@ -96,7 +96,8 @@ pub fn node_arrays<'a>(
     let (highs, after_highs) = array(alloc, after_variables, Entry::Number, integer, head, count)?;
     let head = b" low[nodes] = {\n";
     let (lows, rest) = array(alloc, after_highs, Entry::Number, integer, head, count)?;
-    Ok((nodes_of(alloc, &variables, &highs, &lows)?, rest))
+    let nodes = nodes_of(alloc, &variables, &highs, &lows)?;
+    Ok((nodes, rest))
 }
 
 /// The states, and the text after their arrays.
@@ -114,5 +115,6 @@ pub fn state_arrays<'a>(
     let (rows, after_rows) = array(alloc, text, Entry::Number, integer, head, count)?;
     let head = b" accept[states] = {\n";
     let (accepts, rest) = array(alloc, after_rows, Entry::Answer, CHAR, head, count)?;
-    Ok((states_of(alloc, &rows, &accepts)?, rest))
+    let states = states_of(alloc, &rows, &accepts)?;
+    Ok((states, rest))
 }
