@@ -1,6 +1,7 @@
 -- What is judged of worked units, by computing.
 use Rattle.std.proofs.Common.{◌≡◌, true, false, [], ◌∷◌, ◌++◌, None, Some, refl, codes, map}
 use Rattle.std.specs.Fmt.{digits}
+use Rattle.dcv_tokens.specs.Tokens.{reserved_words}
 use Rattle.dcv_lexer.specs.Cuts.{Token}
 use Rattle.dcv_observer.specs.Subsets.{first_broken}
 use Rattle.dcv_c_tables.specs.Unit.{Tables}
@@ -52,7 +53,7 @@ abbrev twice : Tables
 twice = record { parameters = codes "v_p" ∷ codes "v_p" ∷ []; nodes = []; states = record { row = 0; accepts = true } ∷ [] }
 
 pub twice_is_at_fault : first_broken (words_of twice) (judged twice) ≡ Some 255
-unfolding words_of judged digits
+unfolding words_of judged digits reserved_words
 twice_is_at_fault = refl
 
 -- and one that keeps all rules
@@ -60,5 +61,5 @@ abbrev always : Tables
 always = record { parameters = codes "v_p" ∷ codes "v_q" ∷ []; nodes = []; states = record { row = 0; accepts = true } ∷ [] }
 
 pub always_is_read : first_broken (words_of always) (judged always) ≡ None
-unfolding words_of judged digits
+unfolding words_of judged digits reserved_words
 always_is_read = refl
