@@ -31,13 +31,13 @@ reads_nothing : (text : List ℕ) → Reads Nothing text
 reads_nothing text = Ended [] text (record { is = refl }) refl
 
 reads_lo : (text : List ℕ) → Reads NodeLo text
-reads_lo text = reads_target 10 (inr refl) text
+reads_lo text = reads_target 10 refl text
 
 reads_colon : (text : List ℕ) → Reads NodeColon text
 reads_colon text = reads_followed 32 (exact_words (codes ":") refl) refl some_lo text (reads_literal (codes ":") 32 text) reads_lo
 
 reads_hi : (text : List ℕ) → Reads NodeHi text
-reads_hi text = reads_followed 32 target_words refl some_colon text (reads_target 32 (inl refl) text) reads_colon
+reads_hi text = reads_followed 32 target_words refl some_colon text (reads_target 32 refl text) reads_colon
 
 reads_mark : (text : List ℕ) → Reads NodeMark text
 reads_mark text = reads_followed 32 (exact_words (codes "?") refl) refl some_hi text (reads_literal (codes "?") 32 text) reads_hi
@@ -46,16 +46,16 @@ reads_node_name : (text : List ℕ) → Reads NodeName text
 reads_node_name text = reads_followed 32 name_words refl some_mark text (reads_name 32 (inl refl) text) reads_mark
 
 reads_node_body : (text : List ℕ) → Reads NodeBody text
-reads_node_body text = reads_followed 32 node_words refl some_name text (reads_node 32 (inl refl) text) reads_node_name
+reads_node_body text = reads_followed 32 node_words refl some_name text (reads_node 32 refl text) reads_node_name
 
 reads_row : (text : List ℕ) → Reads StateRow text
-reads_row text = reads_target 10 (inr refl) text
+reads_row text = reads_target 10 refl text
 
 reads_state_answer : (text : List ℕ) → Reads StateAnswer text
 reads_state_answer text = reads_followed 32 answer_words refl some_row text (reads_answer text) reads_row
 
 reads_state_body : (text : List ℕ) → Reads StateBody text
-reads_state_body text = reads_followed 32 number_words refl some_answer text (reads_number 32 (inl refl) text) reads_state_answer
+reads_state_body text = reads_followed 32 number_words refl some_answer text (reads_number 32 refl text) reads_state_answer
 
 reads_last_letter : (text : List ℕ) → Reads LastLetter text
 reads_last_letter text = reads_letter 10 (inr refl) text
@@ -67,16 +67,16 @@ reads_start : (text : List ℕ) → Reads StartHow text
 reads_start text = reads_followed 32 (exact_words (codes "start") refl) refl some_last_letter text (reads_literal (codes "start") 32 text) reads_last_letter
 
 reads_after_state : (text : List ℕ) → Reads AfterHow text
-reads_after_state text = reads_followed 32 number_words refl some_last_letter text (reads_number 32 (inl refl) text) reads_last_letter
+reads_after_state text = reads_followed 32 number_words refl some_last_letter text (reads_number 32 refl text) reads_last_letter
 
 reads_how_access : (text : List ℕ) → Reads AccessHow text
 reads_how_access text = reads_either text (reads_empty text) (reads_either text (reads_start text) (reads_after_state text))
 
 reads_access_body : (text : List ℕ) → Reads AccessBody text
-reads_access_body text = reads_followed 32 number_words refl some_how_access text (reads_number 32 (inl refl) text) reads_how_access
+reads_access_body text = reads_followed 32 number_words refl some_how_access text (reads_number 32 refl text) reads_how_access
 
 reads_last_number : (text : List ℕ) → Reads LastNumber text
-reads_last_number text = reads_number 10 (inr refl) text
+reads_last_number text = reads_number 10 refl text
 
 reads_then : (text : List ℕ) → Reads ThenHow text
 reads_then text = reads_followed 32 letter_words refl some_last_number text (reads_letter 32 (inl refl) text) reads_last_number
@@ -85,7 +85,7 @@ reads_how_suffix : (text : List ℕ) → Reads SuffixHow text
 reads_how_suffix text = reads_either text (reads_empty text) (reads_then text)
 
 reads_suffix_body : (text : List ℕ) → Reads SuffixBody text
-reads_suffix_body text = reads_followed 32 number_words refl some_how_suffix text (reads_number 32 (inl refl) text) reads_how_suffix
+reads_suffix_body text = reads_followed 32 number_words refl some_how_suffix text (reads_number 32 refl text) reads_how_suffix
 
 -- ---- the line of a step
 
@@ -93,19 +93,19 @@ reads_step_nodes : (text : List ℕ) → Reads StepNodes text
 reads_step_nodes text = reads_followed 32 (exact_words (codes "nodes") refl) refl some_last_number text (reads_literal (codes "nodes") 32 text) reads_last_number
 
 reads_step_states_number : (text : List ℕ) → Reads StepStatesNumber text
-reads_step_states_number text = reads_followed 32 number_words refl some_step_nodes text (reads_number 32 (inl refl) text) reads_step_nodes
+reads_step_states_number text = reads_followed 32 number_words refl some_step_nodes text (reads_number 32 refl text) reads_step_nodes
 
 reads_step_states : (text : List ℕ) → Reads StepStates text
 reads_step_states text = reads_followed 32 (exact_words (codes "states") refl) refl some_step_states_number text (reads_literal (codes "states") 32 text) reads_step_states_number
 
 reads_step_place : (text : List ℕ) → Reads StepPlace text
-reads_step_place text = reads_followed 32 number_words refl some_step_states text (reads_number 32 (inl refl) text) reads_step_states
+reads_step_place text = reads_followed 32 number_words refl some_step_states text (reads_number 32 refl text) reads_step_states
 
 reads_step_at : (text : List ℕ) → Reads StepAt text
 reads_step_at text = reads_followed 32 (exact_words (codes "at") refl) refl some_step_place text (reads_literal (codes "at") 32 text) reads_step_place
 
 reads_step_body : (text : List ℕ) → Reads StepBody text
-reads_step_body text = reads_followed 32 number_words refl some_step_at text (reads_number 32 (inl refl) text) reads_step_at
+reads_step_body text = reads_followed 32 number_words refl some_step_at text (reads_number 32 refl text) reads_step_at
 
 reads_step : (text : List ℕ) → Reads WholeStep text
 reads_step text = reads_followed 32 (exact_words (codes "step") refl) refl some_step_body text (reads_literal (codes "step") 32 text) reads_step_body
@@ -237,7 +237,7 @@ steps_within (suc most) text fits = steps_by text (λ rest less. steps_within mo
 verdict_closed : (version : Version) (text : List ℕ) → Verdict (Closed version) text
 verdict_closed First text = verdict_nothing text
 verdict_closed Second text =
-    verdict_followed 10 number_words refl some_step_tail text (reads_number 10 (inr refl) text) (λ rest. steps_within (length rest) rest (omega arith))
+    verdict_followed 10 number_words refl some_step_tail text (reads_number 10 refl text) (λ rest. steps_within (length rest) rest (omega arith))
 
 module _ (version : Version) where
   -- ---- sections
@@ -267,7 +267,7 @@ module _ (version : Version) where
 
   verdict_counted : (text : List ℕ) → Verdict (Counted version) text
   verdict_counted text =
-      verdict_followed 10 number_words refl (some_tail version Node) text (reads_number 10 (inr refl) text) (λ rest. tail_within (length rest) Node rest (omega arith))
+      verdict_followed 10 number_words refl (some_tail version Node) text (reads_number 10 refl text) (λ rest. tail_within (length rest) Node rest (omega arith))
 
   verdict_stated : (text : List ℕ) → Verdict (Stated version) text
   verdict_stated text = verdict_followed 32 (exact_words (codes "states") refl) refl some_counted text (reads_literal (codes "states") 32 text) verdict_counted

@@ -12,7 +12,7 @@ use Rattle.dcv_automaton_text.specs.Form.{is_visible, IsNameWord}
 use Rattle.dcv_automaton_lines.specs.Pieces.{AreVisible, Exactly, Nothing, Followed, Either, IsStuckIn}
 use Rattle.dcv_automaton_lines.specs.Parts.{NumberWord, NodeWord, TargetWord, AnswerWord, NameWord, LetterWord, Words, LastWord, NextWord}
 use Rattle.dcv_automaton_lines.specs.Seen.{letter_of}
-use Rattle.dcv_automaton_lines.specs.Stops.{IsEnd, is_binary}
+use Rattle.dcv_automaton_lines.specs.Stops.{IsEnd, IsNumberEnd, is_binary}
 use Rattle.dcv_automaton_lines.proofs.Pieces.{HasWords, Leads, stuck_after, leads_followed}
 use Rattle.dcv_automaton_lines.proofs.WordSets.{AtFront, IsBeginning, NoDigit, SomeDigits, number_stuck, number_grows, leads_same, first_stuck, exactly_away, leads_node, node_away, some_node, leads_state, leads_target_node, target_away, some_target, accept_stuck, reject_stuck, name_is, name_stuck, letter_is, letter_stuck, dash_stuck}
 use Rattle.dcv_automaton_lines.proofs.LineSets.{Some, within, exactly}
@@ -87,7 +87,7 @@ small_or_over : (number : ℕ) → ((0 < number) × (number ≤ 999999)) ⊎ ((n
 small_or_over zero = inr (inl refl)
 small_or_over (suc number) = elim (cases_lt 999999 (suc number)) [ inl large ↦ inr (inr large) | inr small ↦ inl (omega arith, omega arith) ]
 
-module _ (end : ℕ) (is_end : IsEnd end) (text : List ℕ) where
+module _ (end : ℕ) (is_end : IsNumberEnd end) (text : List ℕ) where
   abbrev Number : Type 0
   Number = Reads (Followed NumberWord end Nothing) text
 
@@ -127,14 +127,14 @@ other_first b c text other d more same e = other (let first : b ≡ d = cc in fi
 none_first : (c d : ℕ) (more : List ℕ) → [] ≡ d ∷ more → d ≡ c → ⊥
 none_first c d more same e = cc
 
-pub reads_node : (end : ℕ) → IsEnd end → (text : List ℕ) → Reads (Followed NodeWord end Nothing) text
+pub reads_node : (end : ℕ) → IsNumberEnd end → (text : List ℕ) → Reads (Followed NodeWord end Nothing) text
 reads_node end is_end [] = StuckAt [] (first_stuck (Followed NodeWord end Nothing) [] _ (some_node end) (node_away end [] (none_first 110)))
 reads_node end is_end (b ∷ text) = elim (cases_eq b 110) [
   | inl same ↦ reads_after (leads_node end) (λ i. same i ∷ text) (reads_number end is_end text)
   | inr other ↦ StuckAt (b ∷ text) (first_stuck (Followed NodeWord end Nothing) (b ∷ text) _ (some_node end) (node_away end (b ∷ text) (other_first b 110 text other)))
 ]
 
-pub reads_target : (end : ℕ) → IsEnd end → (text : List ℕ) → Reads (Followed TargetWord end Nothing) text
+pub reads_target : (end : ℕ) → IsNumberEnd end → (text : List ℕ) → Reads (Followed TargetWord end Nothing) text
 reads_target end is_end [] =
     StuckAt [] (first_stuck (Followed TargetWord end Nothing) [] _ (some_target end) (target_away end [] (λ d more same e. let wrong : [] ≡ d ∷ more = same in cc)))
 reads_target end is_end (b ∷ text) = elim (cases_eq b 116) [

@@ -17,7 +17,7 @@ use Rattle.dcv_automaton_text.specs.Spelled.{node_word, target_word, answer_word
 use Rattle.dcv_automaton_text.proofs.Words.{decimal_is_visible, letter_is_visible, digits_are}
 use Rattle.dcv_automaton_lines.specs.Pieces.{AreVisible, Exactly, Nothing, Followed, Either, IsNoFurther, IsStuckIn}
 use Rattle.dcv_automaton_lines.specs.Parts.{NumberWord, NodeWord, TargetWord, AnswerWord, NameWord, LetterWord}
-use Rattle.dcv_automaton_lines.specs.Stops.{IsEnd, is_binary, IsStuckAt}
+use Rattle.dcv_automaton_lines.specs.Stops.{IsEnd, IsNumberEnd, is_binary, IsStuckAt}
 use Rattle.dcv_automaton_lines.specs.declared.stop.Stuck.{Stuck}
 use Rattle.dcv_automaton_lines.specs.Seen.{letter_of}
 use Rattle.dcv_automaton_lines.proofs.Pieces.{no_further_away, same_front, append_none, both, cut_by, not_within, HasWords, Leads, stuck_after, IsAway, stuck_in_first, stuck_in_second, longer_front}
@@ -26,9 +26,6 @@ use Rattle.dcv_automaton_lines.proofs.Pieces.{no_further_away, same_front, appen
 
 pub end_is_invisible : (end : ℕ) → IsEnd end → is_visible end ≡ false
 end_is_invisible end is = elim is [ inl space ↦ ap is_visible space | inr feed ↦ ap is_visible feed ]
-
-end_is_no_digit : (end : ℕ) → IsEnd end → is_ascii_digit end ≡ false
-end_is_no_digit end is = elim is [ inl space ↦ ap is_ascii_digit space | inr feed ↦ ap is_ascii_digit feed ]
 
 end_is_not_binary : (end : ℕ) → IsEnd end → is_binary end ≡ false
 end_is_not_binary end is = elim is [ inl space ↦ ap is_binary space | inr feed ↦ ap is_binary feed ]
@@ -174,10 +171,10 @@ no_short_power (suc (suc (suc (suc (suc (suc (suc k))))))) large = seven_more k
     seven_more : (k : ℕ) → 7 ≤ suc (suc (suc (suc (suc (suc (suc k))))))
     seven_more k = omega arith
 
-module _ (end : ℕ) (is_end : IsEnd end) (b : ℕ) where
+module _ (end : ℕ) (is_end : IsNumberEnd end) (b : ℕ) where
   no_first : (word rest other : List ℕ) → NumberWord word → is_ascii_digit b ≡ false → word ++ end ∷ rest ≡ b ∷ other → ⊥
   no_first word rest other is no_digit same =
-      let read = cut_by is_ascii_digit word [] rest other end b (ap (list_all is_ascii_digit) is.is ∙ digits_are is.number is.small) refl (end_is_no_digit end is_end) no_digit same in
+      let read = cut_by is_ascii_digit word [] rest other end b (ap (list_all is_ascii_digit) is.is ∙ digits_are is.number is.small) refl is_end no_digit same in
       let some = decimal_is_some is.number is.small in
       let none : length (decimal is.number) ≡ 0 = ap length (sym is.is ∙ read.same) in
       omega arith
@@ -186,7 +183,7 @@ module _ (end : ℕ) (is_end : IsEnd end) (b : ℕ) where
       → (word rest other : List ℕ) → NumberWord word → word ++ end ∷ rest ≡ decimal number ++ b ∷ other → ⊥
   no_other_byte number small differs no_digit word rest other is same =
       let read = cut_by is_ascii_digit word (decimal number) rest other end b (ap (list_all is_ascii_digit) is.is ∙ digits_are is.number is.small) (digits_are number small)
-      (end_is_no_digit end is_end) no_digit same in
+      is_end no_digit same in
       differs (sym read.ends)
 
   no_leading_zero : (m : ℕ) → IsNumber m → (word rest other : List ℕ) → word ≡ decimal m → (b ≡ end → ⊥) → word ++ end ∷ rest ≡ 48 ∷ b ∷ other → ⊥
@@ -223,10 +220,10 @@ module _ (end : ℕ) (is_end : IsEnd end) (b : ℕ) where
       behind : (more : List ℕ) → decimal number ≡ word ++ more → end ∷ rest ≡ more ++ b ∷ other → ⊥
       behind [] whole left =
           let e : end ≡ b = cc in
-          let wrong : true ≡ false = sym digit ∙ ap is_ascii_digit (sym e) ∙ end_is_no_digit end is_end in cc
+          let wrong : true ≡ false = sym digit ∙ ap is_ascii_digit (sym e) ∙ is_end in cc
       behind (e ∷ more) whole left =
           let ends : e ≡ end = cc in
-          not_within is_ascii_digit (decimal number) word more end (digits_are number small) (end_is_no_digit end is_end)
+          not_within is_ascii_digit (decimal number) word more end (digits_are number small) is_end
           (ap (λ b. word ++ b ∷ more) (sym ends) ∙ sym whole)
 
   no_digit_more : (number : ℕ) → IsNumber number → (b ≡ end → ⊥) → ((is_ascii_digit b ≡ false) ⊎ ((number ≡ 0) ⊎ (999999 < number)))
@@ -243,10 +240,10 @@ module _ (end : ℕ) (is_end : IsEnd end) (b : ℕ) where
         ]
       ]
 
-number_over : (digits : List ℕ) (number end : ℕ) (left : List ℕ) → IsEnd end → IsBeginning digits number → IsOver digits number end left
+number_over : (digits : List ℕ) (number end : ℕ) (left : List ℕ) → IsNumberEnd end → IsBeginning digits number → IsOver digits number end left
     → NoneGoesOn NumberWord end digits left
 number_over digits number end [] is_end begins over = λ word rest is same.
-    not_within is_ascii_digit digits word rest end (beginning_digits digits number begins) (end_is_no_digit end is_end) same
+    not_within is_ascii_digit digits word rest end (beginning_digits digits number begins) is_end same
 number_over digits number end (b ∷ left) is_end (NoDigit none nil) over = λ word rest other is same.
     elim over.1 [
       | inl no_digit ↦ no_first end is_end b word rest other is no_digit (same ∙ ap (λ d. d ++ b ∷ other) none)
@@ -257,7 +254,7 @@ number_over digits number end (b ∷ left) is_end (SomeDigits written small) ove
     no_digit_more end is_end b number small (over.0 some) (elim over.1 [ inl no_digit ↦ inl no_digit | inr full ↦ inr full.1 ])
     word rest other is (same ∙ ap (λ d. d ++ b ∷ other) written)
 
-pub number_stuck : (text digits left : List ℕ) (number end : ℕ) → IsEnd end → text ≡ digits ++ left → IsBeginning digits number → IsOver digits number end left
+pub number_stuck : (text digits left : List ℕ) (number end : ℕ) → IsNumberEnd end → text ≡ digits ++ left → IsBeginning digits number → IsOver digits number end left
     → IsStuckIn (Followed NumberWord end Nothing) text left
 number_stuck text digits left number end is_end cut (NoDigit none nil) over =
     stuck_word NumberWord end text digits left (decimal 0) (decimal 0 ++ end ∷ []) cut (record { number = 0; small = omega arith; is = refl })

@@ -1,12 +1,14 @@
 -- How clauses see where reading stops.
 --     IsEnd end                   a space or a line feed
+--     IsNumberEnd end             no digit
 --     is_binary b                 the byte is a digit `0` or `1`
 --     IsStuckAt P text answer     where the answer is no part, the text is stuck there in the set
 --     IsFaultBy P text stop       the stop is a fault of the text, or running out of memory
 --     IsStopAt P text answer      where the answer is a stop, it is that
 --     IsStuckBy P text stop       the text is stuck at the stop, or memory ran out
 --     IsStuckStop P text answer   where the answer is a stop, it is that
-use Rattle.std.specs.Prelude.{◌≡◌, ℕ, Bool, ◌||◌, nat_eq, List, Result, Ok, Err, ◌⊎◌}
+use Rattle.std.specs.Prelude.{◌≡◌, ℕ, Bool, false, ◌||◌, nat_eq, List, Result, Ok, Err, ◌⊎◌}
+use Rattle.std.specs.Char.{is_ascii_digit}
 use Rattle.dcv_automaton_lines.specs.Pieces.{IsStuckIn, IsFaultAt}
 use Rattle.dcv_automaton_lines.specs.declared.stop.Stuck.{Stuck}
 use Rattle.dcv_automaton_lines.specs.declared.stop.Stop.{Stop}
@@ -14,6 +16,9 @@ use Rattle.dcv_automaton_lines.specs.declared.stop.Stop.TheVariants.{Syntax, Mem
 
 abbrev pub IsEnd : ℕ → Type 0
 IsEnd end = (end ≡ 32) ⊎ (end ≡ 10)
+
+abbrev pub IsNumberEnd : ℕ → Type 0
+IsNumberEnd end = is_ascii_digit end ≡ false
 
 abbrev pub is_binary : ℕ → Bool
 is_binary b = nat_eq b 48 || nat_eq b 49

@@ -17,3 +17,5 @@ pub use lines::{
     AccessLine, AccessWord, Lines, NodeLine, StateLine, StepLine, StepPart, SuffixLine, SuffixWord,
 };
 pub use reading::{LinesFault, lines_of};
+pub use stop::{Stop, Stuck};
+pub use words::{begins_with, literal, number};

@@ -8,7 +8,7 @@ ghost use Rattle.dcv_automaton_text.specs.Spelled.{node_word, target_word, answe
 ghost use Rattle.dcv_automaton_lines.specs.Pieces.{Exactly, Nothing, Followed};
 ghost use Rattle.dcv_automaton_lines.specs.Parts.{NumberWord, NodeWord, TargetWord, AnswerWord, NameWord, LetterWord};
 ghost use Rattle.dcv_automaton_lines.specs.Seen.{letter_of};
-ghost use Rattle.dcv_automaton_lines.specs.Stops.{IsEnd, is_binary, IsStuckAt};
+ghost use Rattle.dcv_automaton_lines.specs.Stops.{IsEnd, IsNumberEnd, is_binary, IsStuckAt};
 
 use crate::stop::Stuck;
 use dcv_language::Child;
@@ -47,7 +47,7 @@ fn takes_a_digit(place: usize, number: u32) -> bool
 
 /// A number, and the text after its end.
 pub fn number<'a>(text: &'a [u8], end: u8) -> Result<(u32, &'a [u8]), Stuck<'a>>
-    requires { IsEnd end }
+    requires { IsNumberEnd end }
     ensures small { IfOk result (λ read. IsNumber read.0) }
     ensures spelled { IfOk result (λ read. text.now ≡ decimal read.0 ++ end ∷ read.1.now) }
     ensures fault { IsStuckAt (Followed NumberWord end Nothing) text.now result }
@@ -71,7 +71,7 @@ pub fn number<'a>(text: &'a [u8], end: u8) -> Result<(u32, &'a [u8]), Stuck<'a>>
 
 /// The number of a node in its name, and the text after its end.
 pub fn node_number<'a>(text: &'a [u8], end: u8) -> Result<(u32, &'a [u8]), Stuck<'a>>
-    requires { IsEnd end }
+    requires { IsNumberEnd end }
     ensures small { IfOk result (λ read. IsNumber read.0) }
     ensures spelled { IfOk result (λ read. text.now ≡ node_word read.0 ++ end ∷ read.1.now) }
     ensures fault { IsStuckAt (Followed NodeWord end Nothing) text.now result }
@@ -84,7 +84,7 @@ pub fn node_number<'a>(text: &'a [u8], end: u8) -> Result<(u32, &'a [u8]), Stuck
 
 /// What comes next in a row, and the text after its end.
 pub fn target<'a>(text: &'a [u8], end: u8) -> Result<(Child, &'a [u8]), Stuck<'a>>
-    requires { IsEnd end }
+    requires { IsNumberEnd end }
     ensures small { IfOk result (λ read. IsTarget read.0) }
     ensures spelled { IfOk result (λ read. text.now ≡ target_word read.0 ++ end ∷ read.1.now) }
     ensures fault { IsStuckAt (Followed TargetWord end Nothing) text.now result }

@@ -17,5 +17,6 @@ mod words;
 pub use dcv_language::{Access, Suffix};
 pub use faults::AutoFault;
 pub use file::{AutoFile, Row};
+pub use names::is_name;
 pub use nodes::Node;
 pub use reading::automaton_read;

@@ -64,8 +64,8 @@ fn is_word(bytes: &[u8]) -> bool
     bytes[0].is_ascii_alphabetic() && are_word_bytes(&bytes[1..])
 }
 
-// A word that is not reserved.
-fn is_name(bytes: &[u8]) -> bool
+/// Whether these bytes are a name: a word that is not reserved.
+pub fn is_name(bytes: &[u8]) -> bool
     ensures { result ≡ is_name bytes.now }
 {
     one_class();
