@@ -60,7 +60,7 @@ pub use Rattle.dcv_cli.specs.declared.status.Status.{Status}
 pub use Rattle.dcv_cli.specs.declared.status.Status.TheVariants.{Automaton as StatusAutomaton, Budget as StatusBudget, Done, Input, Memory as OutOfMemory, NotValid, Output, Usage, Valid}
 pub use Rattle.dcv_command.specs.Request.{AreInRange, Certify, Convert, Implies, IsTaken, Replay, Report, Request, Stuck, Sweep, Synth, request_of}
 pub use Rattle.dcv_command.specs.declared.words.Subset.{Subset}
-pub use Rattle.dcv_command.specs.declared.words.Subset.TheVariants.{C as InC, Lustre as InLustre}
+pub use Rattle.dcv_command.specs.declared.words.Subset.TheVariants.{C as InC, Lustre as InLustre, Tables as InTables}
 pub use Rattle.dcv_command.specs.declared.words.Version.{Version}
 pub use Rattle.dcv_core.specs.Core.{CoreTree}
 pub use Rattle.dcv_core.specs.Holds.{words_of}

@@ -1,6 +1,6 @@
 -- One outcome at most, and some, is right for a replay of files that are held.
 use Rattle.dcv_cli.proofs.Common.{◌≡◌, ◌⊎◌, inl, inr, refl, ℕ, ◌≤◌, List, [], length, Option, None, Some, sym, ap, ◌∙◌}
-use Rattle.dcv_cli.proofs.Common.{subst, arith, IsSomeAnd, Subset, InLustre, InC, ObsFault}
+use Rattle.dcv_cli.proofs.Common.{subst, arith, IsSomeAnd, Subset, InLustre, InC, InTables, ObsFault}
 use Rattle.dcv_cli.proofs.Common.{OneTraceVerdict as OneVerdict, SomeVerdict, OneTextOfAnswers as OneText, GoodLinesAreAnswered, Observer}
 use Rattle.dcv_cli.proofs.Common.{width_of, AreAnswers, good_letters, Refusal, Only, IsFaultIn, IsRefusedObserver, IsObserverText}
 use Rattle.dcv_cli.proofs.Common.{OnObserver, Outcome, refused, most_observer_bytes, refusal_of_observer, IsReplay, fault_of_trace}
@@ -10,7 +10,8 @@ use Rattle.dcv_c.specs.Laws as c
 use Rattle.dcv_c.specs.Placed.{unit_of}
 use Rattle.dcv_lustre.specs.Laws as lustre
 use Rattle.dcv_lustre.specs.Placed.{node_of}
-use Rattle.dcv_replay.specs.Observer.{Lustre, C}
+use Rattle.dcv_replay.specs.Observer.{Lustre, C, Tables}
+use Rattle.dcv_tables_read.specs.Laws as tables
 use Rattle.dcv_replay.specs.TraceText.{Verdict}
 use Rattle.dcv_cli.specs.declared.refusal.Refusal.TheVariants.{Observer as ObserverRefusal}
 use Rattle.dcv_cli.specs.declared.faults.ObserverFault.TheVariants.{Length}
@@ -18,7 +19,7 @@ use Rattle.dcv_cli.specs.ObserverFile.{IsObserverIn, TooLong, Faulty, Refused, R
 use Rattle.dcv_cli.proofs.OneCertificate.{same_outcome}
 use Rattle.dcv_cli.proofs.Replays.{keeps_the_rules}
 
--- what is known of the texts of both subsets
+-- what is known of the texts of each subset
 pub record AreSubsets : Type 0 where
   pub one_node : lustre.SpellsOne
   pub one_node_fault : lustre.OneFault
@@ -26,26 +27,44 @@ pub record AreSubsets : Type 0 where
   pub one_unit : c.SpellsOne
   pub one_unit_fault : c.OneFault
   pub no_unit_fault : c.NoFaultWhereRead
+  pub one_tables : tables.SpellsOne
+  pub one_tables_fault : tables.OneFault
+  pub no_tables_fault : tables.NoFaultWhereRead
 
 module _ (subsets : AreSubsets) where
   one_observer : (subset : Subset) (text : List ℕ) (one other : Observer) → IsObserverIn subset text one → IsObserverIn subset text other → one ≡ other
   one_observer InLustre text (Lustre node) (Lustre other) is is' =
       ap Lustre (sym is.is ∙ ap node_of (subsets.one_node text is.placed is'.placed is.spelled is'.spelled) ∙ is'.is)
   one_observer InLustre text (Lustre node) (C other) is is' = absurd is'
+  one_observer InLustre text (Lustre node) (Tables other) is is' = absurd is'
   one_observer InLustre text (C unit) other is is' = absurd is
+  one_observer InLustre text (Tables unit) other is is' = absurd is
   one_observer InC text (C unit) (C other) is is' = ap C (sym is.is ∙ ap unit_of (subsets.one_unit text is.placed is'.placed is.spelled is'.spelled) ∙ is'.is)
   one_observer InC text (C unit) (Lustre other) is is' = absurd is'
+  one_observer InC text (C unit) (Tables other) is is' = absurd is'
   one_observer InC text (Lustre node) other is is' = absurd is
+  one_observer InC text (Tables unit) other is is' = absurd is
+  one_observer InTables text (Tables unit) (Tables other) is is' = ap Tables (subsets.one_tables text unit other is.form is'.form)
+  one_observer InTables text (Tables unit) (Lustre other) is is' = absurd is'
+  one_observer InTables text (Tables unit) (C other) is is' = absurd is'
+  one_observer InTables text (Lustre node) other is is' = absurd is
+  one_observer InTables text (C unit) other is is' = absurd is
 
   one_fault_in : (subset : Subset) (text : List ℕ) (fault other : ObsFault) → IsFaultIn subset text fault → IsFaultIn subset text other → fault ≡ other
   one_fault_in InLustre text fault other has has' = subsets.one_node_fault text fault other has has'
   one_fault_in InC text fault other has has' = subsets.one_unit_fault text fault other has has'
+  one_fault_in InTables text fault other has has' = subsets.one_tables_fault text fault other has has'
 
   fault_or_observer : (subset : Subset) (text : List ℕ) (fault : ObsFault) (observer : Observer) → IsFaultIn subset text fault → IsObserverIn subset text observer → ⊥
   fault_or_observer InLustre text fault (Lustre node) has is = subsets.no_node_fault text node fault is has
   fault_or_observer InLustre text fault (C unit) has is = is
+  fault_or_observer InLustre text fault (Tables unit) has is = is
   fault_or_observer InC text fault (Lustre node) has is = is
   fault_or_observer InC text fault (C unit) has is = subsets.no_unit_fault text unit fault is has
+  fault_or_observer InC text fault (Tables unit) has is = is
+  fault_or_observer InTables text fault (Lustre node) has is = is
+  fault_or_observer InTables text fault (C unit) has is = is
+  fault_or_observer InTables text fault (Tables unit) has is = subsets.no_tables_fault text unit fault is has
 
   one_refusal : (subset : Subset) (text : List ℕ) (r s : Refusal) → IsRefusedObserver subset text r → IsRefusedObserver subset text s → r ≡ s
   one_refusal subset text r s (TooLong long e) (TooLong long' e') = e ∙ sym e'
@@ -90,15 +109,16 @@ module _ (subsets : AreSubsets) where
 
 -- ---- some outcome
 
-module _ (some_node : lustre.SomeReading) (some_unit : c.SomeReading) (some_verdict : SomeVerdict) (answered : GoodLinesAreAnswered) where
+module _ (some_node : lustre.SomeReading) (some_unit : c.SomeReading) (some_tables : tables.SomeReading) (rules : tables.ReadUnitsKeepTheRules) (some_verdict : SomeVerdict) (answered : GoodLinesAreAnswered) where
   some_reading : (subset : Subset) (text : List ℕ) → ((fault : ObsFault) × IsFaultIn subset text fault) ⊎ ((observer : Observer) × IsObserverIn subset text observer)
   some_reading InLustre text = elim (some_node text) [ inl fault ↦ inl fault | inr read ↦ inr (Lustre read.0, read.1) ]
   some_reading InC text = elim (some_unit text) [ inl fault ↦ inl fault | inr read ↦ inr (C read.0, read.1) ]
+  some_reading InTables text = elim (some_tables text) [ inl fault ↦ inl fault | inr read ↦ inr (Tables read.0, read.1) ]
 
   some_on_trace : (subset : Subset) (text trace : List ℕ) (observer : Observer) → IsObserverText subset text observer → (outcome : Outcome) × IsReplay observer trace outcome
   some_on_trace subset text trace observer is =
       let verdict = some_verdict (width_of observer) trace in
-      let answers = answered observer (keeps_the_rules subset text observer is) trace verdict.0 verdict.1 in (
+      let answers = answered observer (keeps_the_rules rules subset text observer is) trace verdict.0 verdict.1 in (
         record { status = status_of_trace (fault_of_trace verdict.0); out = answers.0; err = message_of_trace (fault_of_trace verdict.0) },
         record { verdict = verdict.0; is_verdict = verdict.1; answers = answers.1; status = refl; message = refl },
       )

@@ -1,12 +1,13 @@
 -- The observer of a replay, and what is right for the trace after it.
 use Rattle.dcv_cli.proofs.Common.{◌≡◌, ◌≢◌, ◌≤◌, ℕ, List, [], ◌∷◌, length, Option, Some, refl, sym, subst, ◌∙◌}
-use Rattle.dcv_cli.proofs.Common.{OnTrue, Asks, Disk, held_of, asks_in_turn, Replay, Subset, InLustre, InC, ObsFault, Observer}
+use Rattle.dcv_cli.proofs.Common.{OnTrue, Asks, Disk, held_of, asks_in_turn, Replay, Subset, InLustre, InC, InTables, ObsFault, Observer}
 use Rattle.dcv_cli.proofs.Common.{KeepsTheRules, Texts, OnHeld, IsHeldText, IsFaultIn, IsRefusedObserver, IsObserverText}
 use Rattle.dcv_cli.proofs.Common.{Outcome, Outside, LeavesFor, most_observer_bytes, refusal_of_observer}
 use Rattle.dcv_cli.proofs.Common.{status_of, IsReplay, FulfilsTrace, LeavesTrace, LeavesOfTrace, OfOpen, OfRead, Fulfils, FulfilsOver}
 use Rattle.dcv_cli.proofs.Common.{is_determined}
 use Rattle.dcv_observer.specs.declared.fault.ObsFault.TheVariants.{Memory}
-use Rattle.dcv_replay.specs.Observer.{Lustre, C}
+use Rattle.dcv_replay.specs.Observer.{Lustre, C, Tables}
+use Rattle.dcv_tables_read.specs.Laws.{ReadUnitsKeepTheRules}
 use Rattle.dcv_cli.specs.ObserverFile.{Faulty, Read}
 use Rattle.dcv_cli.specs.Replayed.{LeavesAnswers, OfOpen as NotOpened, OfRead as ReadFailed}
 use Rattle.dcv_cli.proofs.TwoFiles.{later_held}
@@ -17,12 +18,17 @@ pub explains_observer : (subset : Subset) (text : List ℕ) (fault : ObsFault) �
 explains_observer subset text Memory short has = tt
 explains_observer subset text fault short has = Faulty short fault (has (λ same. cc)) refl
 
--- an observer that is read keeps the rules of names
-pub keeps_the_rules : (subset : Subset) (text : List ℕ) (observer : Observer) → IsObserverText subset text observer → KeepsTheRules observer
-keeps_the_rules InLustre text (Lustre node) is = is.read.well_named
-keeps_the_rules InLustre text (C unit) is = absurd is.read
-keeps_the_rules InC text (Lustre node) is = absurd is.read
-keeps_the_rules InC text (C unit) is = is.read.well_named
+-- an observer that is read keeps the rules of its language
+pub keeps_the_rules : ReadUnitsKeepTheRules → (subset : Subset) (text : List ℕ) (observer : Observer) → IsObserverText subset text observer → KeepsTheRules observer
+keeps_the_rules law InLustre text (Lustre node) is = is.read.well_named
+keeps_the_rules law InLustre text (C unit) is = absurd is.read
+keeps_the_rules law InLustre text (Tables unit) is = absurd is.read
+keeps_the_rules law InC text (Lustre node) is = absurd is.read
+keeps_the_rules law InC text (C unit) is = is.read.well_named
+keeps_the_rules law InC text (Tables unit) is = absurd is.read
+keeps_the_rules law InTables text (Lustre node) is = absurd is.read
+keeps_the_rules law InTables text (C unit) is = absurd is.read
+keeps_the_rules law InTables text (Tables unit) is = law text unit is.read
 
 -- ---- of the file of a name
 

@@ -42,6 +42,7 @@ use Rattle.dcv_command.specs.declared.words.SetQuestion.{SetQuestion}
 use Rattle.dcv_command.proofs.Ranges.{request_is_in_range}
 use Rattle.dcv_automaton_lines.proofs.ReadForms.{some_form}
 use Rattle.dcv_cli.proofs.OneReplay.{some_replay}
+use Rattle.dcv_tables_read.specs.Laws.{ReadUnitsKeepTheRules, SomeReading as SomeTables}
 use Rattle.dcv_cli.proofs.SomeAnswers.{some_answer}
 use Rattle.dcv_cli.proofs.SomeReports.{some_sweep, some_comparison}
 use Rattle.dcv_cli.proofs.StuckReports.{some_stuck_report}
@@ -153,7 +154,7 @@ held_under OfText held name there right = by (held name) there
 
 module _ (some_reading : SomeReading) (reports : SomeReport) (syntheses : SomeSynthesis) (sets : SomeSet) (laws : WordLaws) (accept : MachineAcceptsStep)
     (outside_is : ComplementIsCanonical) (models_are : WordsAreModels) (none_included : NoneWhereIncluded) (fewest : MinimalShowsFewestStates) (reached : MinimalReachesEachState)
-    (words_ask : TakenWordsAsk) (some_node : SomeNode) (some_unit : SomeUnit) (some_verdict : SomeVerdict) (answered : GoodLinesAreAnswered) (goes_on : NeverStuckGoesOn) where
+    (words_ask : TakenWordsAsk) (some_node : SomeNode) (some_unit : SomeUnit) (some_tables : SomeTables) (tables_rules : ReadUnitsKeepTheRules) (some_verdict : SomeVerdict) (answered : GoodLinesAreAnswered) (goes_on : NeverStuckGoesOn) where
   -- ---- a formula file
 
   on_text : (which : Which) (RightFor : PlainFile → Outcome → Type 0) (text : List ℕ)
@@ -187,7 +188,7 @@ module _ (some_reading : SomeReading) (reports : SomeReport) (syntheses : SomeSy
           → (outcome : Outcome) × IsSomeAnd text (λ bytes. OnObserver subset bytes (λ o outcome. IsSomeAnd trace_text (λ t. IsReplay o t outcome)) outcome)
       by None trace_text some also = absurd (true≢false (sym some))
       by (Some text) None some also = absurd (true≢false (sym also))
-      by (Some text) (Some trace_text) some also = some_replay some_node some_unit some_verdict answered subset text trace_text
+      by (Some text) (Some trace_text) some also = some_replay some_node some_unit some_tables tables_rules some_verdict answered subset text trace_text
 
   some_for_request : (held : Texts) (request : Request) → IsInRange request → ((time : ℕ) → All (λ name. IsSome (held time name)) (files_of request))
       → (outcome : Outcome) × Fulfils request held outcome

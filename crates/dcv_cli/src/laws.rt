@@ -28,6 +28,9 @@ use dcv_synth::laws::{
     answers_are_one, controls_win, least_lines_are_one, one_side_is_right, some_player_wins,
     strategies_beat, units_answer, winners_of_same_behaviours,
 };
+use dcv_tables_read::laws::{
+    read_units_keep_the_rules, texts_are_units_or_at_fault as texts_are_tables_or_at_fault,
+};
 use dcv_together::laws::{one_answer as one_answer_of_sets, some_answer};
 
 /// The promise of the program, of whatever is right where the words ask for `all` of a text: its first fault is named, or the first step that
@@ -66,6 +69,7 @@ pub fn one_outcome()
     texts_are_nodes_or_at_fault();
     texts_spell_units();
     texts_are_units_or_at_fault();
+    texts_are_tables_or_at_fault();
     traces_have_one_verdict();
     letters_have_one_text_of_answers();
     one_summary();
@@ -86,7 +90,9 @@ pub fn some_outcome()
     taken_words_ask();
     texts_are_nodes_or_at_fault();
     texts_are_units_or_at_fault();
+    texts_are_tables_or_at_fault();
     texts_spell_units();
+    read_units_keep_the_rules();
     traces_have_one_verdict();
     letters_have_one_text_of_answers();
     minimal_shows_fewest_states();

@@ -13,7 +13,7 @@
 //! of `check` it has the minimal automaton of the formula, with two states, in the text that `dcv_automaton_text` shows.
 //! `certify` reads such a text back and judges its words by themselves, `convert` writes it in another version, `implies` compares two
 //! formula files, `stuck` asks whether what has kept to a formula so far can always go on, and `synth` finds a controller that keeps to a
-//! formula, or shows how its inputs beat every controller. `replay-lustre` and `replay-c` run an observer over a trace, and
+//! formula, or shows how its inputs beat every controller. `replay-lustre`, `replay-c` and `replay-tables` run an observer over a trace, and
 //! `sweep` counts what holds of formulas that are drawn.
 #![tactic(auto)]
 

@@ -2,7 +2,7 @@
 ghost use Rattle.std.specs.Prelude.{◌≡◌, ◌≤◌, ◌+◌, [], ◌∷◌, length, IfOk, IfErr, IsTrue};
 ghost use Rattle.std.specs.Bool.{OnTrue};
 ghost use Rattle.dcv_command.specs.Request.{Replay as ReplayRequest};
-ghost use Rattle.dcv_command.specs.declared.words.Subset.TheVariants.{Lustre, C};
+ghost use Rattle.dcv_command.specs.declared.words.Subset.TheVariants.{Lustre, C, Tables};
 ghost use Rattle.dcv_replay.specs.Coming.{most_reads};
 ghost use Rattle.dcv_replay.specs.Observer.{Observer, KeepsTheRules, Follows};
 ghost use Rattle.dcv_cli.specs.Held.{OfHeldText};
@@ -24,6 +24,8 @@ use dcv_io::{Files, Sink};
 use dcv_lustre_read::read as read_node;
 use dcv_replay::Replay;
 use dcv_replay::laws::{letters_have_one_text_of_answers, traces_have_one_verdict};
+use dcv_tables_read::laws::read_units_keep_the_rules;
+use dcv_tables_read::read as read_tables;
 use std::alloc::Global;
 
 /// Answers each line of the trace in the file of the second name, by the observer in the file of the first.
@@ -38,6 +40,7 @@ pub(crate) fn replay_file<F: Files, O: Sink>(
     ensures { PerformsRequest (ReplayRequest subset observer.entry.now trace.entry.now) result
         (outside F.Files O.Sink files.old out.old) (outside F.Files O.Sink files.new out.new) }
 {
+    read_units_keep_the_rules();
     let mut replay = observer_file(alloc, subset, files, observer)?;
     answer_trace(&mut replay, trace, files, out)
 }
@@ -69,6 +72,7 @@ fn observer_of(alloc: Global, subset: Subset, text: &[u8]) -> Result<Replay, Ref
     match subset {
         Subset::Lustre => node_of(alloc, text),
         Subset::C => unit_of(alloc, text),
+        Subset::Tables => tables_of(alloc, text),
     }
 }
 
@@ -93,6 +97,19 @@ fn unit_of(alloc: Global, text: &[u8]) -> Result<Replay, Refusal>
 {
     let unit = read_unit(alloc, text)?;
     let replay = Replay::c(alloc, &unit)?;
+    Ok(replay)
+}
+
+// The unit of constant tables that the text spells.
+fn tables_of(alloc: Global, text: &[u8]) -> Result<Replay, Refusal>
+    requires { length text.now ≤ most_observer_bytes }
+    ensures observer { IfOk result (IsReplayOf Tables text.now) }
+    ensures refused { IfErr result (λ refusal. OnTrue (is_determined (status_of refusal)) (IsRefusedObserver Tables text.now refusal)) }
+    ensures own { IfErr result (λ refusal. IsTrue (is_of_text refusal)) }
+{
+    read_units_keep_the_rules();
+    let unit = read_tables(alloc, text)?;
+    let replay = Replay::tables(alloc, unit)?;
     Ok(replay)
 }
 

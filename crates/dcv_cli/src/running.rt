@@ -39,7 +39,7 @@ use std::alloc::Global;
 /// not. `stuck FILE` writes `never stuck`, or the least behaviour that keeps to the requirement and cannot be continued.
 /// `synth FILE --inputs N` writes a controller whose outputs, the variables after the first N, satisfy the formula at each instant whatever
 /// its inputs, the first N, are; or else how the inputs are picked by which no controller does, and within how many instants.
-/// `replay-lustre OBSERVER TRACE` and `replay-c OBSERVER TRACE` write an observer's answer at each instant of a trace.
+/// `replay-lustre OBSERVER TRACE`, `replay-c OBSERVER TRACE` and `replay-tables OBSERVER TRACE` write an observer's answer at each instant of a trace.
 /// `sweep SEED COUNT` writes how many of the formulas that are drawn from the seed are valid, and what else is counted over them.
 /// `together FILE ..` writes the least behaviour that satisfies the formulas of all files, over the names of all of them, and `never stuck`, or the
 /// least behaviour that keeps to all of them and cannot be continued. `follows FILE ..` says whether each behaviour that satisfies all files after the

@@ -21,7 +21,7 @@ use Rattle.dcv_language.specs.declared.kind.Kind.TheVariants.{Check, Automaton, 
 use Rattle.dcv_command.specs.declared.words.SetQuestion.{SetQuestion}
 use Rattle.dcv_command.specs.declared.words.SetQuestion.TheVariants.{Together, Follows}
 use Rattle.dcv_command.specs.declared.words.Subset.{Subset}
-use Rattle.dcv_command.specs.declared.words.Subset.TheVariants.{Lustre as LustreText, C as CText}
+use Rattle.dcv_command.specs.declared.words.Subset.TheVariants.{Lustre as LustreText, C as CText, Tables as TablesText}
 use Rattle.dcv_command.specs.declared.words.Version.{Version}
 use Rattle.dcv_command.specs.declared.words.Version.TheVariants.{One, Two}
 
@@ -168,6 +168,7 @@ synth = record {
 abbrev pub replay_name : Subset → Text
 replay_name LustreText = codes "replay-lustre"
 replay_name CText = codes "replay-c"
+replay_name TablesText = codes "replay-tables"
 
 abbrev pub replay : Subset → Command
 replay subset = record { name = replay_name subset; arguments = file (codes "observer") ∷ file (codes "trace") ∷ []; asks = Replay subset }
@@ -194,4 +195,4 @@ set question = record {
 abbrev pub commands : List Command
 commands =
     report Check ∷ report Automaton ∷ report Lustre ∷ report C ∷ report Tables ∷ report All ∷ certify ∷ convert ∷ implies ∷ stuck ∷ synth
-    ∷ replay LustreText ∷ replay CText ∷ sweep ∷ set Together ∷ set Follows ∷ []
+    ∷ replay LustreText ∷ replay CText ∷ replay TablesText ∷ sweep ∷ set Together ∷ set Follows ∷ []

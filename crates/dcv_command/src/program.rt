@@ -32,6 +32,7 @@ const EXAMPLE_AND_STATUS: &str =
   dcvalid c door.dc > door.c
   dcvalid replay-c door.c door.trace
   dcvalid tables door.dc > door_tables.c
+  dcvalid replay-tables door_tables.c door.trace
   dcvalid sweep 7 200
   dcvalid together door.dc other.dc --tuples 1000
   dcvalid follows other.dc door.dc
@@ -163,7 +164,7 @@ const OVER_A_TRACE: [Argument<'static>; 2] = [
         "The trace: a line for each instant, with a digit 0 or 1 for each variable, or - where there is none" },
 ];
 
-static COMMANDS: [Entry<'static>; 16] = entries! {
+static COMMANDS: [Entry<'static>; 17] = entries! {
     "check" "Writes the verdict, with a shortest counterexample and a shortest example" OVER_A_FORMULA;
     "automaton" "Writes the minimal automaton, with words that show that it is minimal" OVER_A_FORMULA;
     "lustre" "Writes an observer in a flat subset of Lustre, which reports at each instant whether the behaviour so far satisfies the formula" OVER_A_FORMULA;
@@ -187,6 +188,7 @@ inputs that beat every controller"
             "How many of the declared variables, from the first on, are inputs, from 0 to 16; the others, at most 8, are outputs" }, STATES, NODES];
     "replay-lustre" "Writes what an observer, as the command lustre writes it, answers at each instant of a trace" OVER_A_TRACE;
     "replay-c" "Writes what an observer, as the command c writes it, answers at each instant of a trace" OVER_A_TRACE;
+    "replay-tables" "Writes what an observer, as the command tables writes it, answers at each instant of a trace" OVER_A_TRACE;
     "sweep" "Draws formulas over x, y and z, and writes how many are valid, how many satisfiable, how many are over the limits of 30000 \
 states and 1000000 nodes, and how many states the minimal automata of the others have together"
         [argument! { "seed", Form::Operand, Value::Number(0, MOST_SEED), "SEED", "The number that the drawing begins from, up to 2147483647" },

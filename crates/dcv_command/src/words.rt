@@ -85,6 +85,8 @@ pub enum SetQuestion {
 pub enum Subset {
     Lustre,
     C,
+    /// The constant tables of C.
+    Tables,
 }
 
 /// A version of an automaton's text: the second has a line for each step of the formula.
@@ -183,6 +185,7 @@ fn request_named<'a>(
         "synth" => Ok(synth_in(matches)),
         "replay-lustre" => Ok(replay_in(matches, Subset::Lustre)),
         "replay-c" => Ok(replay_in(matches, Subset::C)),
+        "replay-tables" => Ok(replay_in(matches, Subset::Tables)),
         "sweep" => Ok(sweep_in(matches)),
         "together" => Ok(set_in(
             matches,

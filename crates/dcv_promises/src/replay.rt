@@ -1,4 +1,4 @@
-//! `replay-lustre` and `replay-c`: an observer that is run over a trace.
+//! `replay-lustre`, `replay-c` and `replay-tables`: an observer that is run over a trace.
 ghost use Rattle.std.specs.Prelude.{ℕ, List};
 ghost use Rattle.dcv_command.specs.Request.{Replay};
 ghost use Rattle.dcv_command.specs.declared.words.Subset.{Subset};
@@ -9,7 +9,7 @@ use dcv_cli::{Status, Words, run};
 use dcv_io::{Files, Sink};
 use std::alloc::Global;
 
-/// `replay-lustre FILE FILE` and `replay-c FILE FILE`: the observer's answer at each instant of the trace, by the meaning of its text.
+/// `replay-lustre FILE FILE`, `replay-c FILE FILE` and `replay-tables FILE FILE`: the observer's answer at each instant of the trace, by the meaning of its text.
 #[tactic(auto, using(crate::proofs::Asked::replayed))]
 pub fn replay<F: Files, O: Sink, E: Sink>(
     alloc: Global,

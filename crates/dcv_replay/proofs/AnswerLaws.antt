@@ -6,9 +6,10 @@ use Rattle.dcv_word.specs.Behaviour.{Word}
 use Rattle.dcv_lustre.specs.Laws.{TraceExists, TraceIsOne}
 use Rattle.dcv_lustre.specs.Meaning.{Valuation, is_ok}
 use Rattle.dcv_c.specs.Meaning.{unit_accepts}
+use Rattle.dcv_c_tables.specs.Meaning.{tables_accept}
 use Rattle.dcv_replay.specs.TraceText.{AreWide, AreLines, Verdict, HasVerdict, Good, Bad, Long, Nothing, good_letters}
 use Rattle.dcv_replay.specs.Answers.{answer_line}
-use Rattle.dcv_replay.specs.Observer.{Observer, Lustre, C, width_of, Accepts, KeepsTheRules, AreAnswers}
+use Rattle.dcv_replay.specs.Observer.{Observer, Lustre, C, Tables, width_of, Accepts, KeepsTheRules, AreAnswers}
 use Rattle.dcv_replay.specs.Laws.{GoodLinesAreAnswered}
 use Rattle.dcv_replay.proofs.Texts.{wide_append, wide_one, wide_none}
 
@@ -56,6 +57,7 @@ module _ (exists : TraceExists) (only : TraceIsOne) where
         ),
       )
   accepts_or_not (C unit) rules word wide = (unit_accepts unit word, ((λ is. is), λ is. is))
+  accepts_or_not (Tables unit) rules word wide = (tables_accept unit word, ((λ is. is), λ is. is))
 
   some_answers : (letters : Word) (observer : Observer) → KeepsTheRules observer → (before : Word) → AreWide (width_of observer) before
       → AllByRecursion (λ (letter : List Bool). length letter ≡ width_of observer) letters → (text : List ℕ) × AreAnswers observer before letters text

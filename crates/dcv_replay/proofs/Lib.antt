@@ -18,6 +18,8 @@ mod NodeSteps
 mod NodeCells
 mod NodeRuns
 mod Values
+mod TableSteps
+mod TableRuns
 mod NodeReplays
 mod TraceLaws
 mod AnswerLaws

@@ -19,7 +19,7 @@ use Rattle.dcv_lustre.specs.Form.{IsSpellable}
 use Rattle.dcv_lustre.specs.Laws.{TraceExists}
 use Rattle.dcv_lustre.specs.Seen.{seen_equation}
 use Rattle.dcv_replay.specs.declared.replay.Select.{Select}
-use Rattle.dcv_replay.specs.Program.{first_name, IsWithin, IsReplay}
+use Rattle.dcv_replay.specs.Program.{first_name, IsWithin, IsReplay, Selects}
 use Rattle.dcv_replay.specs.Observer.{Lustre, Follows}
 use Rattle.dcv_replay.specs.Selecting.{slot_of, copy, test_select, IsFresh}
 use Rattle.dcv_replay.specs.OfNode.{item_slot, choosing, arm_select, arms_selects, tests_selects, cell_of, right_selects, equation_selects, latch_of, latch_selects, node_selects}
@@ -126,16 +126,16 @@ module _ (node : Node) (well : IsWellNamed node) (form : IsSpellable node) (exis
   selects_are = ap (λ (n : ℕ). node_selects n equations) (sym counted)
 
   pub follows_of_node : Follows (Lustre node) [] (record {
-    program = record { width = width_of node; inputs = slot_of 0; selects = node_selects count equations; answer = slot_of (length node.inputs) };
+    program = record { width = width_of node; steps = Selects (slot_of 0) (node_selects count equations) (slot_of (length node.inputs)) };
     store = store;
   })
   follows_of_node =
       subst (Follows (Lustre node) [])
-      (λ i. record { program = record { width = width_of node; inputs = slot_of 0; selects = selects_are i; answer = slot_of (length node.inputs) }; store = store_is i })
+      (λ i. record { program = record { width = width_of node; steps = Selects (slot_of 0) (selects_are i) (slot_of (length node.inputs)) }; store = store_is i })
       (follows_node node well exists equations same placed (fold (after_cell first_cell (length (names_of node))) of.fresh equations) starts)
 
   pub is_replay_of_node : IsReplay (record {
-    program = record { width = width_of node; inputs = slot_of 0; selects = node_selects count equations; answer = slot_of (length node.inputs) };
+    program = record { width = width_of node; steps = Selects (slot_of 0) (node_selects count equations) (slot_of (length node.inputs)) };
     store = store;
   })
   is_replay_of_node =
@@ -145,7 +145,9 @@ module _ (node : Node) (well : IsWellNamed node) (form : IsSpellable node) (exis
       let thin = narrow node.inputs (few_inputs node well) in
       record {
         width = omega (arith, few, thin);
-        inputs = omega (arith, thin, total, long);
-        answer = omega (arith, total, long);
-        selects = subst (All (IsWithin (length store))) selects_are (selects_within (length (names_of node)) (length store) long equations placed);
+        steps = record {
+          variables = omega (arith, thin, total, long);
+          answered = omega (arith, total, long);
+          within = subst (All (IsWithin (length store))) selects_are (selects_within (length (names_of node)) (length store) long equations placed);
+        };
       }

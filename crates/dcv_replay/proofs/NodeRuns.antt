@@ -21,7 +21,7 @@ use Rattle.dcv_lustre.specs.Seen.{seen_equation}
 use Rattle.dcv_lustre.proofs.Runs.{IsOnNoLeft, IsInOrder}
 use Rattle.dcv_lustre.proofs.OneTrace.{StandsInOrder}
 use Rattle.dcv_lustre.proofs.InOrder.{stands_in_order}
-use Rattle.dcv_replay.specs.Program.{Program, first_name, after_select, with_letter, after_letter, after_word, is_accepting, rest_of}
+use Rattle.dcv_replay.specs.Program.{Program, first_name, after_select, with_letter, after_letter, after_word, is_accepting, rest_of, Selects}
 use Rattle.dcv_replay.specs.Observer.{Lustre, Follows, value_number, AreOfLast}
 use Rattle.dcv_replay.specs.Selecting.{slot_of}
 use Rattle.dcv_replay.specs.OfNode.{equation_selects, latch_selects, node_selects, after_cell, IsPlacedEquation}
@@ -81,12 +81,7 @@ module _ (node : Node) (well : IsWellNamed node) (exists : TraceExists) (equatio
   count_of = length-append node.inputs (ok ∷ local_names node)
 
   abbrev pub node_program : Program
-  node_program = record {
-    width = width_of node;
-    inputs = slot_of 0;
-    selects = node_selects (length (names_of node)) equations;
-    answer = slot_of (length node.inputs);
-  }
+  node_program = record { width = width_of node; steps = Selects (slot_of 0) (node_selects (length (names_of node)) equations) (slot_of (length node.inputs)) }
 
   pub record Runs (before : Option Values) (store : List ℕ) : Type 0 where
     pub long : first_name + (length (names_of node) + length (names_of node)) < length store

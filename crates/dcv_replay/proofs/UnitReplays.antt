@@ -23,7 +23,7 @@ use Rattle.dcv_c.specs.Rules.{IsWellNamed}
 use Rattle.dcv_c.specs.Form.{IsStatement, IsReturned, IsAssignment, IsSpellable}
 use Rattle.dcv_c.specs.Seen.{names_of, seen_statement, seen_returned, seen_assignment}
 use Rattle.dcv_replay.specs.declared.replay.Select.{Select}
-use Rattle.dcv_replay.specs.Program.{ReplayValue, first_name, IsWithin, IsReplay}
+use Rattle.dcv_replay.specs.Program.{ReplayValue, first_name, IsWithin, IsReplay, Selects}
 use Rattle.dcv_replay.specs.Observer.{C, Follows}
 use Rattle.dcv_replay.specs.Selecting.{slot_of, copy, IsFresh}
 use Rattle.dcv_replay.specs.OfUnit.{item_slot, choosing, right_select, statement_select, tests_selects, returned_selects, after_assignment}
@@ -174,12 +174,7 @@ module _ (unit : CUnit) (well : IsWellNamed unit) (form : IsSpellable unit) (law
     }
 
     pub new_follows : Follows (C unit) [] (record {
-      program = record {
-        width = length unit.parameters;
-        inputs = slot_of (length unit.statics);
-        selects = map statement_select code ++ returned_selects (slot_of (length (names_of unit))) returned;
-        answer = slot_of (length (names_of unit));
-      };
+      program = record { width = length unit.parameters; steps = Selects (slot_of (length unit.statics)) (map statement_select code ++ returned_selects (slot_of (length (names_of unit))) returned) (slot_of (length (names_of unit))) };
       store = fold after_assignment fresh assignments;
     })
     new_follows =
@@ -187,23 +182,20 @@ module _ (unit : CUnit) (well : IsWellNamed unit) (form : IsSpellable unit) (law
         (fold after_assignment fresh assignments) starts
 
     pub new_is_replay : IsReplay (record {
-      program = record {
-        width = length unit.parameters;
-        inputs = slot_of (length unit.statics);
-        selects = map statement_select code ++ returned_selects (slot_of (length (names_of unit))) returned;
-        answer = slot_of (length (names_of unit));
-      };
+      program = record { width = length unit.parameters; steps = Selects (slot_of (length unit.statics)) (map statement_select code ++ returned_selects (slot_of (length (names_of unit))) returned) (slot_of (length (names_of unit))) };
       store = fold after_assignment fresh assignments;
     })
     new_is_replay = record {
       width = omega (arith, few_parameters unit well);
-      inputs = omega (arith, room, length-append unit.statics (unit.parameters ++ unit.locals), length-append unit.parameters unit.locals);
-      answer = omega (arith, room);
-      selects = All-append (IsWithin (length (fold after_assignment fresh assignments))) (map statement_select code) (returned_selects (slot_of (length (names_of unit))) returned)
-          (All-from_recursion (IsWithin (length (fold after_assignment fresh assignments))) (map statement_select code)
-          (statements_within (length (names_of unit)) (length (fold after_assignment fresh assignments)) room code placed_code))
-          (returned_within (length (names_of unit)) (length (fold after_assignment fresh assignments)) room (slot_of (length (names_of unit))) (omega (arith, room)) returned
-          placed_returned);
+      steps = record {
+        variables = omega (arith, room, length-append unit.statics (unit.parameters ++ unit.locals), length-append unit.parameters unit.locals);
+        answered = omega (arith, room);
+        within = All-append (IsWithin (length (fold after_assignment fresh assignments))) (map statement_select code) (returned_selects (slot_of (length (names_of unit))) returned)
+            (All-from_recursion (IsWithin (length (fold after_assignment fresh assignments))) (map statement_select code)
+            (statements_within (length (names_of unit)) (length (fold after_assignment fresh assignments)) room code placed_code))
+            (returned_within (length (names_of unit)) (length (fold after_assignment fresh assignments)) room (slot_of (length (names_of unit))) (omega (arith, room)) returned
+            placed_returned);
+      };
     }
 
 -- ---- whole replays
@@ -218,28 +210,18 @@ module _ (unit : CUnit) (well : IsWellNamed unit) (form : IsSpellable unit) (law
     (store : List ℕ) (set : IsStoreOf unit count store) where
   abbrev value : ReplayValue
   value = record {
-    program = record { width = length unit.parameters; inputs = inputs; selects = selects; answer = answer };
+    program = record { width = length unit.parameters; steps = Selects inputs selects answer };
     store = store;
   }
 
   exact_value : record {
-    program = record {
-      width = length unit.parameters;
-      inputs = slot_of (length unit.statics);
-      selects = map statement_select of.code ++ returned_selects (slot_of (length (names_of unit))) of.returned;
-      answer = slot_of (length (names_of unit));
-    };
+    program = record { width = length unit.parameters; steps = Selects (slot_of (length unit.statics)) (map statement_select of.code ++ returned_selects (slot_of (length (names_of unit))) of.returned) (slot_of (length (names_of unit))) };
     store = fold after_assignment set.fresh set.assignments;
   } ≡ value
   exact_value i =
       let answer_at = sym (answer_is ∙ ap slot_of counted) in
       record {
-        program = record {
-          width = length unit.parameters;
-          inputs = sym inputs_is i;
-          selects = (ap (λ (at : ℕ). map statement_select of.code ++ returned_selects at of.returned) answer_at ∙ sym of.all) i;
-          answer = answer_at i;
-        };
+        program = record { width = length unit.parameters; steps = Selects (sym inputs_is i) ((ap (λ (at : ℕ). map statement_select of.code ++ returned_selects at of.returned) answer_at ∙ sym of.all) i) (answer_at i) };
         store = sym set.set i;
       }
 

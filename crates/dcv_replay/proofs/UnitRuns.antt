@@ -21,7 +21,7 @@ use Rattle.dcv_c.specs.Rules.{IsWellNamed}
 use Rattle.dcv_c.specs.Seen.{names_of, seen_statement, seen_returned}
 use Rattle.dcv_observer.proofs.Naming.{Name}
 use Rattle.dcv_observer.specs.Naming.{AreDistinct}
-use Rattle.dcv_replay.specs.Program.{Program, first_name, after_select, with_letter, after_letter, after_word, rest_of}
+use Rattle.dcv_replay.specs.Program.{Program, first_name, after_select, with_letter, after_letter, after_word, rest_of, Selects}
 use Rattle.dcv_replay.specs.Observer.{C, Follows}
 use Rattle.dcv_replay.specs.Selecting.{slot_of}
 use Rattle.dcv_replay.specs.OfUnit.{statement_select, returned_selects, IsPlacedStatement, IsPlacedReturned}
@@ -61,12 +61,7 @@ module _ (unit : CUnit) (well : IsWellNamed unit) (law : NoLeftOverIsRead) (code
   apart = apart_places (names_of unit) distinct
 
   abbrev pub unit_program : Program
-  unit_program = record {
-    width = length unit.parameters;
-    inputs = slot_of (length unit.statics);
-    selects = map statement_select code ++ returned_selects (slot_of (length (names_of unit))) returned;
-    answer = slot_of (length (names_of unit));
-  }
+  unit_program = record { width = length unit.parameters; steps = Selects (slot_of (length unit.statics)) (map statement_select code ++ returned_selects (slot_of (length (names_of unit))) returned) (slot_of (length (names_of unit))) }
 
   pub record Runs (at : UnitState) (store : List ℕ) : Type 0 where
     pub long : first_name + length (names_of unit) < length store

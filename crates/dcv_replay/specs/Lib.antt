@@ -2,6 +2,7 @@
 pub mod TraceText
 pub mod Answers
 pub mod Program
+pub mod Seen
 pub mod Observer
 pub mod Coming
 pub mod Replayed

@@ -1,5 +1,5 @@
-//! Observers that are run over traces: an observer is made into selections over the numbers of a store, and each line of a trace is answered by
-//! one pass over them.
+//! Observers that are run over traces. A node or a unit is made into selections over the numbers of a store, and each line of a trace is answered by
+//! one pass over them; for a unit of tables a line is one walk through these.
 //!
 //! ```text
 //! let mut replay = Replay::lustre(alloc, &node)?; // or Replay::c(alloc, &unit)
@@ -12,6 +12,7 @@ mod fault;
 pub mod laws;
 mod lines;
 mod of_node;
+mod of_tables;
 mod of_unit;
 mod replay;
 mod running;

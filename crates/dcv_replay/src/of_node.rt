@@ -10,7 +10,7 @@ ghost use Rattle.dcv_replay.specs.OfNode.{latch_selects, after_cell, first_cell,
 ghost use Rattle.dcv_replay.specs.OfNode.{node_selects, IsStoreOf};
 
 use crate::Replay;
-use crate::replay::Select;
+use crate::replay::{Select, Steps};
 use crate::selecting::{MOST_NAMES, copy, count_within, new_store, slot_of, test_select};
 use dcv_lustre::laws::one_trace;
 use dcv_lustre::{Arm, Condition, Equation, Item, Node, Right, Test, Value};
@@ -32,7 +32,8 @@ impl Replay {
         let equations = node.equations();
         let selects = selects_of(alloc, count, equations)?;
         let store = store_of(alloc, count, equations)?;
-        Ok(Replay::of(width, slot_of(0), selects, answer, store))
+        let steps = Steps::Selects(slot_of(0), selects, answer);
+        Ok(Replay::of(width, steps, store))
     }
 }
 

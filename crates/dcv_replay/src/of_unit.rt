@@ -9,7 +9,7 @@ ghost use Rattle.dcv_replay.specs.OfUnit.{IsPlacedItem, IsPlacedCondition, IsPla
 ghost use Rattle.dcv_replay.specs.OfUnit.{ArePlacedAssignments};
 
 use crate::Replay;
-use crate::replay::Select;
+use crate::replay::{Select, Steps};
 use crate::selecting::{copy, count_within, new_store, slot_of, test_select};
 use dcv_c::laws::nothing_left_over_is_read;
 use dcv_c::{CUnit, Condition, Item, Reset, Returned, Right, Statement, Step, Test};
@@ -30,7 +30,8 @@ impl Replay {
         let answer = slot_of(count);
         let selects = selects_of(alloc, unit, answer)?;
         let store = store_of(alloc, unit, count)?;
-        Ok(Replay::of(width, inputs, selects, answer, store))
+        let steps = Steps::Selects(inputs, selects, answer);
+        Ok(Replay::of(width, steps, store))
     }
 }
 

@@ -1,13 +1,15 @@
-//! An observer as selections over the numbers of a store.
+//! An observer as a program that is stepped by letters: selections over the numbers of a store, or a walk through tables.
 //!
-//! The first slots hold the numbers of their own places, so that a constant is read as a name is. Then come the observer's names, and after
-//! them what it keeps beside its names.
+//! Of selections the first slots hold the numbers of their own places, so that a constant is read as a name is. Then come the observer's names, and
+//! after them what it keeps beside its names. The store of tables is the number of the state alone.
 ghost use Rattle.std.specs.Prelude.{◌≡◌, ◌↔◌, ◌+◌, ◌≤◌, [], ◌∷◌, ◌++◌, length, fold, IsTrue};
 ghost use Rattle.std.specs.List.{All};
 ghost use Rattle.dcv_word.specs.Behaviour.{Word};
 ghost use Rattle.dcv_replay.specs.Observer.{Observer, Accepts, Follows};
 ghost use Rattle.dcv_replay.specs.Program.{IsReplay, IsWithin, after_select, with_letter, rest_of, advanced};
+ghost use Rattle.dcv_replay.specs.Seen.{seen_steps};
 
+use crate::of_tables::Walk;
 use dcv_word::Letter;
 use std::marker::Model;
 
@@ -27,60 +29,46 @@ pub(crate) struct Select {
     pub(crate) otherwise: u32,
 }
 
+// What a step does.
+#[derive(Drop)]
+pub(crate) enum Steps {
+    // The slot of the first input, the selections in order, and the slot that has the answer after them.
+    Selects(u32, Vec<Select>, u32),
+    // A walk through tables.
+    Walks(Walk),
+}
+
 /// An observer, and what it keeps of the letters so far.
 #[derive(Drop)]
 pub struct Replay {
     // how many variables a letter has
     width: u8,
-    // the slot of the first input
-    inputs: u32,
-    // what an instant does, in order
-    selects: Vec<Select>,
-    // the slot that has the answer after it
-    answer: u32,
+    // what an instant does
+    steps: Steps,
     // the numbers of all slots
     store: Vec<u32>,
 }
 
 impl Model for Replay {
     ghost use Rattle.dcv_replay.specs.Program.{ReplayValue, IsReplay};
+    ghost use Rattle.dcv_replay.specs.Seen.{seen_steps};
 
     ghost Value = { ReplayValue };
 
-    ghost view = { λ r. record {
-      program = record { width = r.width; inputs = r.inputs; selects = r.selects.items; answer = r.answer };
-      store = r.store.items;
-    } };
+    ghost view = { λ r. record { program = record { width = r.width; steps = seen_steps r.steps }; store = r.store.items } };
 
-    ghost invariant = { λ r. IsReplay record {
-      program = record { width = r.width; inputs = r.inputs; selects = r.selects.items; answer = r.answer };
-      store = r.store.items;
-    } };
+    ghost invariant = { λ r. IsReplay record { program = record { width = r.width; steps = seen_steps r.steps }; store = r.store.items } };
 }
 
 impl Replay {
-    // An observer of these selections.
-    pub(crate) fn of(
-        width: u8,
-        inputs: u32,
-        selects: Vec<Select>,
-        answer: u32,
-        store: Vec<u32>,
-    ) -> Replay
-        requires { IsReplay record {
-          program = record { width = width; inputs = inputs; selects = selects.items; answer = answer };
-          store = store.items;
-        } }
-        ensures { result ≡ record {
-          program = record { width = width; inputs = inputs; selects = selects.items; answer = answer };
-          store = store.items;
-        } }
+    // An observer of these steps.
+    pub(crate) fn of(width: u8, steps: Steps, store: Vec<u32>) -> Replay
+        requires { IsReplay record { program = record { width = width; steps = seen_steps steps }; store = store.items } }
+        ensures { result ≡ record { program = record { width = width; steps = seen_steps steps }; store = store.items } }
     {
         Replay {
             width,
-            inputs,
-            selects,
-            answer,
+            steps,
             store,
         }
     }
@@ -116,9 +104,18 @@ impl Replay {
         ensures program { self.new.program ≡ self.old.program }
         ensures answer { result ≡ rest_of self.old (letter.now ∷ []) }
     {
-        put_letter(&mut self.store, self.inputs, letter);
-        select_all(&mut self.store, &self.selects);
-        self.store[self.answer as usize] == 1
+        match &self.steps {
+            Steps::Selects(inputs, selects, answer) => {
+                put_letter(&mut self.store, *inputs, letter);
+                select_all(&mut self.store, selects);
+                self.store[*answer as usize] == 1
+            }
+            Steps::Walks(walk) => {
+                let state = walk.state_after(letter, self.store[0]);
+                self.store[0] = state;
+                walk.accepts(state)
+            }
+        }
     }
 }
 

@@ -14,6 +14,9 @@ returns c =
       one_unit = c.texts_spell_units.ensures.one;
       one_unit_fault = c.texts_are_units_or_at_fault.ensures.one;
       no_unit_fault = c.texts_are_units_or_at_fault.ensures.none;
+      one_tables = c.texts_are_units_or_at_fault-2.ensures.unit;
+      one_tables_fault = c.texts_are_units_or_at_fault-2.ensures.one;
+      no_tables_fault = c.texts_are_units_or_at_fault-2.ensures.none;
     })
     c.traces_have_one_verdict.ensures.one c.letters_have_one_text_of_answers.ensures.one c.one_summary.ensures c.one_answer-3.ensures.least c.one_answer-3.ensures.stuck
     (one_synthesis_of c.one_canonical_table.ensures c.least_lines_are_one.ensures.one c.answers_are_one.ensures.strategy c.one_side_is_right.ensures)

@@ -47,4 +47,5 @@ returns c =
     some_outcome c.some_reading.ensures reports syntheses sets word_laws accept outside_is models_are c.none_is_inclusion.ensures.none
     c.minimal_shows_fewest_states.ensures.fewest c.minimal_shows_fewest_states.ensures.reached
     c.taken_words_ask.ensures c.texts_are_nodes_or_at_fault.ensures.some c.texts_are_units_or_at_fault.ensures.some
+    c.texts_are_units_or_at_fault-2.ensures.some c.read_units_keep_the_rules.ensures
     c.traces_have_one_verdict.ensures.some c.letters_have_one_text_of_answers.ensures.some c.never_stuck_goes_on.ensures

@@ -25,4 +25,4 @@ returns g c =
     (fulfils_replay c.args.subset _ c.args.observer.now c.args.trace.now _ known.text known.is.observer taken.held known.there known.is.is)
     c.answer_trace.result (c.args.trace.now ∷ []) (1 + most_reads) _
     (λ bytes left. leaves_replay c.args.subset c.args.observer.now c.args.trace.now known.text known.is.observer _ _ _ _ _ bytes taken.asked taken.held known.there known.is.is left)
-    (c.answer_trace.ensures known.is.observer (keeps_the_rules c.args.subset known.text known.is.observer known.is.is) known.is.follows)
+    (c.answer_trace.ensures known.is.observer (keeps_the_rules c.read_units_keep_the_rules.ensures c.args.subset known.text known.is.observer known.is.is) known.is.follows)
