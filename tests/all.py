@@ -42,7 +42,7 @@ def tests() -> List[Test]:
     rows = [DATA + path.name for path in sorted((ROOT / DATA).glob("*.rows")) if path.name not in NO_ROWS_TO_HOLD]
     automata = DATA + "canonical_automata.rows"
     scripts = [["tests/growth.py"], ["tests/front_door.sh"], ["tests/observers.py"], ["tests/rows.py", *rows], ["tests/patterns.py"],
-               ["tests/tables.py"], ["tests/work.py"], ["tests/pages.py"], ["tests/stale.py"], ["tests/stack.sh"], ["tests/shifts.py", "1", "100"], ["tests/sets.py", "1", "200"], ["tests/examples.sh"], ["tests/automata.py", automata],
+               ["tests/tables.py"], ["tests/replay_tables.py", "2000"], ["tests/work.py"], ["tests/pages.py"], ["tests/stale.py"], ["tests/stack.sh"], ["tests/shifts.py", "1", "100"], ["tests/sets.py", "1", "200"], ["tests/examples.sh"], ["tests/automata.py", automata],
                ["tests/causes.py"], ["tests/commands.py"]]
     modules = sorted((ROOT / "workbench/tests").glob("test_*.py"), key=lambda path: -path.stat().st_size)
     found = [Test(words[0], words) for words in scripts if (ROOT / words[0]).exists()]
