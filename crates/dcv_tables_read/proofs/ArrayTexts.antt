@@ -378,3 +378,74 @@ module _ (integer : List ℕ) (count : ℕ) where
     states_read rest accepts accepts_are last states of =
         whole ∙ ap (λ t. rows_text integer rows ++ t) last ∙ sym (append_assoc (rows_text integer rows) (accepts_text accepts) rest)
         ∙ ap (λ t. t ++ rest) (states_spelled states rows accepts of accepts_are)
+
+-- ---- no two lists have one text
+
+three_then : (a b c rest : List ℕ) → (a ++ (b ++ c)) ++ rest ≡ a ++ (b ++ (c ++ rest))
+three_then a b c rest = append_assoc a (b ++ c) rest ∙ ap (λ t. a ++ t) (append_assoc b c rest)
+
+same_nodes : (xs ys : List TableNode) → map variable_of xs ≡ map variable_of ys → map high_of xs ≡ map high_of ys → map low_of xs ≡ map low_of ys → xs ≡ ys
+same_nodes [] [] v h l = refl
+same_nodes [] (y ∷ ys) v h l = absurd cc
+same_nodes (x ∷ xs) [] v h l = absurd cc
+same_nodes (x ∷ xs) (y ∷ ys) v h l =
+    let variable : x.variable ≡ y.variable = cc in
+    let high : x.high ≡ y.high = cc in
+    let low : x.low ≡ y.low = cc in
+    let variables : map variable_of xs ≡ map variable_of ys = cc in
+    let highs : map high_of xs ≡ map high_of ys = cc in
+    let lows : map low_of xs ≡ map low_of ys = cc in
+    λ i. record { variable = variable i; high = high i; low = low i } ∷ same_nodes xs ys variables highs lows i
+
+module _ (integer : List ℕ) (count : ℕ) where
+  unique_some : (xs ys : List TableNode) (a b : List ℕ) → 0 < length xs → 0 < length ys → AreNodes count xs → AreNodes count ys
+      → nodes_text integer xs ++ a ≡ nodes_text integer ys ++ b → xs ≡ ys
+  unique_some xs ys a b some also x_is y_is same =
+      let opened = sym (ap (λ t. t ++ a) (nodes_are integer xs some) ∙ three_then (variables_text (map variable_of xs)) (highs_text integer (map high_of xs)) (lows_text integer (map low_of xs)) a)
+      ∙ same ∙ ap (λ t. t ++ b) (nodes_are integer ys also) ∙ three_then (variables_text (map variable_of ys)) (highs_text integer (map high_of ys)) (lows_text integer (map low_of ys)) b in
+      let variables = unique_array Number char_type variable_head count (map variable_of xs) (map variable_of ys) (highs_text integer (map high_of xs) ++ (lows_text integer (map low_of xs) ++ a))
+      (highs_text integer (map high_of ys) ++ (lows_text integer (map low_of ys) ++ b)) (of_variables x_is) (of_variables y_is) opened in
+      let behind = same_behind (variables_text (map variable_of xs)) (variables_text (map variable_of ys)) (ap variables_text variables) opened in
+      let highs = unique_array Number integer high_head count (map high_of xs) (map high_of ys) (lows_text integer (map low_of xs) ++ a) (lows_text integer (map low_of ys) ++ b)
+      (of_highs x_is) (of_highs y_is) behind in
+      let last = same_behind (highs_text integer (map high_of xs)) (highs_text integer (map high_of ys)) (ap (highs_text integer) highs) behind in
+      same_nodes xs ys variables highs (unique_array Number integer low_head count (map low_of xs) (map low_of ys) a b (of_lows x_is) (of_lows y_is) last)
+
+  pub unique_nodes : IsUnique (AreNodes count) (nodes_text integer)
+  unique_nodes [] [] a b x_is y_is same = refl
+  unique_nodes [] (y ∷ ys) a b x_is y_is same = absurd (let none : 0 ≡ suc (length ys) = x_is.many ∙ sym y_is.many in omega (arith, none))
+  unique_nodes (x ∷ xs) [] a b x_is y_is same = absurd (let none : suc (length xs) ≡ 0 = x_is.many ∙ sym y_is.many in omega (arith, none))
+  unique_nodes (x ∷ xs) (y ∷ ys) a b x_is y_is same = unique_some (x ∷ xs) (y ∷ ys) a b (omega arith) (omega arith) x_is y_is same
+
+one_answer : (a b : Bool) → accept_number a ≡ accept_number b → a ≡ b
+one_answer true true same = refl
+one_answer true false same = absurd (omega (arith, same))
+one_answer false true same = absurd (omega (arith, same))
+one_answer false false same = refl
+
+same_states : (xs ys : List TableState) → map row_of xs ≡ map row_of ys → map number_of xs ≡ map number_of ys → xs ≡ ys
+same_states [] [] r a = refl
+same_states [] (y ∷ ys) r a = absurd cc
+same_states (x ∷ xs) [] r a = absurd cc
+same_states (x ∷ xs) (y ∷ ys) r a =
+    let row : x.row ≡ y.row = cc in
+    let answer : accept_number x.accepts ≡ accept_number y.accepts = cc in
+    let rows : map row_of xs ≡ map row_of ys = cc in
+    let answers : map number_of xs ≡ map number_of ys = cc in
+    let accepts = one_answer x.accepts y.accepts answer in
+    λ i. record { row = row i; accepts = accepts i } ∷ same_states xs ys rows answers i
+
+rows_entries : (count : ℕ) (states : List TableState) → AreStates count states → AreEntries Number count (map row_of states)
+rows_entries count states is = record { many = map_length row_of states ∙ is.many; each = all_map row_of IsSmallState (λ state small. small.row) states is.each }
+
+answers_entries : (count : ℕ) (states : List TableState) → AreStates count states → AreEntries Answer count (map number_of states)
+answers_entries count states is = record { many = map_length number_of states ∙ is.many; each = small_answers states }
+
+pub unique_states : (integer : List ℕ) (count : ℕ) → IsUnique (AreStates count) (states_text integer)
+unique_states integer count xs ys a b x_is y_is same =
+    let opened = sym (ap (λ t. t ++ a) (states_are integer xs) ∙ append_assoc (rows_text integer (map row_of xs)) (accepts_text (map number_of xs)) a)
+    ∙ same ∙ ap (λ t. t ++ b) (states_are integer ys) ∙ append_assoc (rows_text integer (map row_of ys)) (accepts_text (map number_of ys)) b in
+    let rows = unique_array Number integer row_head count (map row_of xs) (map row_of ys) (accepts_text (map number_of xs) ++ a) (accepts_text (map number_of ys) ++ b)
+    (rows_entries count xs x_is) (rows_entries count ys y_is) opened in
+    let behind = same_behind (rows_text integer (map row_of xs)) (rows_text integer (map row_of ys)) (ap (rows_text integer) rows) opened in
+    same_states xs ys rows (unique_array Answer char_type accept_head count (map number_of xs) (map number_of ys) a b (answers_entries count xs x_is) (answers_entries count ys y_is) behind)
