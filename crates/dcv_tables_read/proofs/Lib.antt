@@ -10,3 +10,5 @@ pub mod NameLists
 pub mod ArrayTexts
 -- in the functions
 pub mod StepTexts
+-- and in the whole
+pub mod WholeTexts
