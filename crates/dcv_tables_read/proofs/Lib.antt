@@ -10,6 +10,8 @@ pub mod NameLists
 pub mod ArrayTexts
 -- in the functions
 pub mod StepTexts
+-- and in the whole
+pub mod WholeTexts
 -- words are judged in turn
 mod JudgedWords
 -- those of an array
