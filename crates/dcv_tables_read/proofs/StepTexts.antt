@@ -25,11 +25,11 @@ abbrev int_v : List ℕ
 int_v = codes "int v_"
 
 -- as many names
-abbrev ps : ℕ → List (List ℕ)
+abbrev pub ps : ℕ → List (List ℕ)
 ps zero = []
 ps (suc count) = codes "p" ∷ ps count
 
-ps_are : (count : ℕ) → AreNames count (ps count)
+pub ps_are : (count : ℕ) → AreNames count (ps count)
 ps_are zero = record { many = refl; each = All-nil IsNameWord }
 ps_are (suc count) = let next = ps_are count in record { many = ap suc next.many; each = All-cons IsNameWord (codes "p") (ps count) p_is next.each }
 

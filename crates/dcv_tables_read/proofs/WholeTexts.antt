@@ -1,5 +1,5 @@
 -- Where a whole text is stuck, and what is read of it.
-use Rattle.std.proofs.Common.{◌≡◌, ℕ, zero, suc, ◌+◌, ◌<◌, Bool, true, false, List, [], ◌∷◌, ◌++◌, length, map, refl, sym, ap, ◌∙◌, subst, arith}
+use Rattle.std.proofs.Common.{◌≡◌, ℕ, zero, suc, ◌+◌, ◌-◌, ◌<◌, Bool, true, false, List, [], ◌∷◌, ◌++◌, length, map, refl, sym, ap, ◌∙◌, subst, arith}
 use Rattle.std.specs.Prelude.{codes, nat_lt}
 use Rattle.std.specs.List.{All}
 use Rattle.std.proofs.lemmas.List.{append_assoc, length-append}
@@ -11,6 +11,8 @@ use Rattle.dcv_automaton_lines.proofs.LineSets.{Some}
 use Rattle.dcv_c_tables.specs.Unit.{TableNode, TableState, Tables}
 use Rattle.dcv_c_tables.specs.Layout.{text_in, type_for, has_nodes, text_of, layout_of, parameters_layout, reset_lines}
 use Rattle.dcv_c_tables.specs.Observer.{parameter_name}
+use Rattle.std.specs.Borrow.{Bor}
+use Rattle.dcv_tables_read.specs.Values.{words_in}
 use Rattle.dcv_tables_read.specs.Form.{IsNameWord, IsParameter, IsPlainUnit, HasForm, Form, IsSyntaxFault}
 use Rattle.dcv_tables_read.specs.Parts.{Spellings, Then, IsUnique, CountsValue, AreCounts, counts_text, CountsSet, AreNodes, nodes_text, NodesSet, AreStates, states_text, StatesSet, AreNames, step_text, body_text, StepSet, UnitSet, AfterCounts, AfterNodes, integer_of}
 use Rattle.dcv_tables_read.proofs.Chain.{same_behind, stuck_same, stuck_first, stuck_next, some_then, some_spelling}
@@ -173,3 +175,102 @@ module _ (counts : CountsValue) (counts_are : AreCounts counts) (text arrays : L
     module _ (states : List TableState) (states_are : AreStates counts.states states) (functions : List ℕ) (then : behind ≡ states_text (integer_of counts) states ++ functions) where
       pub in_step : {left : List ℕ} → IsStuckIn (StepSet (integer_of counts) (nat_lt 0 counts.nodes) counts.variables) functions left → IsStuckIn Form text left
       in_step stuck = after_nodes (stuck_next (unique_states (integer_of counts) counts.states) states states_are then stuck)
+
+-- ---- no text is that of two units
+
+module _ (counts : CountsValue) (names : List (List ℕ)) (nodes : List TableNode) (states : List TableState) (rest : List ℕ) where
+  abbrev behind_states : List ℕ
+  behind_states = step_text (integer_of counts) (nat_lt 0 counts.nodes) names ++ rest
+
+  abbrev behind_nodes : List ℕ
+  behind_nodes = states_text (integer_of counts) states ++ behind_states
+
+  abbrev behind_counts : List ℕ
+  behind_counts = nodes_text (integer_of counts) nodes ++ behind_nodes
+
+  opened : counts_text counts ++ behind_counts ≡ spelled_by counts names nodes states ++ rest
+  opened =
+      let integer = integer_of counts in
+      let step = step_text integer (nat_lt 0 counts.nodes) names in
+      ap (λ t. counts_text counts ++ t)
+      (ap (λ t. nodes_text integer nodes ++ t) (sym (append_assoc (states_text integer states) step rest)) ∙ sym (append_assoc (nodes_text integer nodes) (states_text integer states ++ step) rest))
+      ∙ sym (append_assoc (counts_text counts) (nodes_text integer nodes ++ (states_text integer states ++ step)) rest)
+
+same_with_counts : (counts : CountsValue) (names other_names : List (List ℕ)) (nodes other_nodes : List TableNode) (states other_states : List TableState) (a b : List ℕ)
+    → IsRead counts names nodes states → IsRead counts other_names other_nodes other_states
+    → behind_counts counts names nodes states a ≡ behind_counts counts other_names other_nodes other_states b → unit_of names nodes states ≡ unit_of other_names other_nodes other_states
+same_with_counts counts names other_names nodes other_nodes states other_states a b read other same =
+    let integer = integer_of counts in
+    let some = nat_lt 0 counts.nodes in
+    let n = unique_nodes integer counts.nodes nodes other_nodes _ _ read.nodes_are other.nodes_are same in
+    let next = same_behind (nodes_text integer nodes) (nodes_text integer other_nodes) (ap (nodes_text integer) n) same in
+    let s = unique_states integer counts.states states other_states _ _ read.states_are other.states_are next in
+    let last = same_behind (states_text integer states) (states_text integer other_states) (ap (states_text integer) s) next in
+    let p = unique_step integer some counts.variables names other_names a b read.names_are other.names_are last in
+    λ i. unit_of (p i) (n i) (s i)
+
+same_units : (counts other_counts : CountsValue) (names other_names : List (List ℕ)) (nodes other_nodes : List TableNode) (states other_states : List TableState) (a b : List ℕ)
+    → IsRead counts names nodes states → IsRead other_counts other_names other_nodes other_states
+    → spelled_by counts names nodes states ++ a ≡ spelled_by other_counts other_names other_nodes other_states ++ b → unit_of names nodes states ≡ unit_of other_names other_nodes other_states
+same_units counts other_counts names other_names nodes other_nodes states other_states a b read other spelled =
+    let same = opened counts names nodes states a ∙ spelled ∙ sym (opened other_counts other_names other_nodes other_states b) in
+    let c = unique_counts counts other_counts _ _ read.counts_are other.counts_are same in
+    let next = same_behind (counts_text counts) (counts_text other_counts) (ap counts_text c) same in
+    same_with_counts counts names other_names nodes other_nodes states other_states a b read
+    (subst (λ (counts : CountsValue). IsRead counts other_names other_nodes other_states) (sym c) other)
+    (subst (λ (last : CountsValue). behind_counts counts names nodes states a ≡ behind_counts last other_names other_nodes other_states b) (sym c) next)
+
+record IsNamed (tables : Tables) : Type 0 where
+  named : HasNames tables.parameters
+  read : IsRead (counted named.names tables.nodes tables.states) named.names tables.nodes tables.states
+  is : tables ≡ unit_of named.names tables.nodes tables.states
+  text : text_of tables ≡ spelled_by (counted named.names tables.nodes tables.states) named.names tables.nodes tables.states
+
+named_of : (tables : Tables) → IsPlainUnit tables → IsNamed tables
+named_of tables plain =
+    let named = names_of tables.parameters plain.parameters in
+    let is : tables ≡ unit_of named.names tables.nodes tables.states = λ i. record { parameters = named.are i; nodes = tables.nodes; states = tables.states } in
+    record {
+      named = named;
+      read = record {
+        counts_are = record { states = plain.few_states; nodes = plain.few_nodes; variables = subst IsNumber (ap length named.are ∙ names_length named.names) plain.few_parameters };
+        names_are = record { many = refl; each = named.each };
+        nodes_are = record { many = refl; each = plain.nodes };
+        states_are = record { many = refl; each = plain.states };
+      };
+      is = is;
+      text = ap text_of is ∙ sym (parts_are named.names tables.nodes tables.states);
+    }
+
+pub unique_tables : IsUnique IsPlainUnit text_of
+unique_tables x y a b x_is y_is same =
+    let first = named_of x x_is in
+    let second = named_of y y_is in
+    first.is ∙ same_units (counted first.named.names x.nodes x.states) (counted second.named.names y.nodes y.states) first.named.names second.named.names x.nodes y.nodes x.states y.states a b
+    first.read second.read (ap (λ t. t ++ a) (sym first.text) ∙ same ∙ ap (λ t. t ++ b) second.text) ∙ sym second.is
+
+-- ---- what stands after a unit is a fault
+
+pub more_is_fault : (tables : Tables) (text rest : List ℕ) → IsPlainUnit tables → text ≡ text_of tables ++ rest → (rest ≡ [] → ⊥) → IsFaultAt Form text rest
+more_is_fault tables text [] plain whole some = absurd (some refl)
+more_is_fault tables text (b ∷ left) plain whole some =
+    record {
+      front = text_of tables;
+      cut = whole;
+      viable = record { more = []; member = (tables, record { plain = plain; spelled = append_none (text_of tables) }) };
+      fault = λ other is.
+          let same : text_of tables ++ b ∷ other ≡ text_of is.0 ++ [] = is.1.spelled ∙ sym (append_none (text_of is.0)) in
+          let tables_are = unique_tables tables is.0 (b ∷ other) [] plain is.1.plain same in
+          let wrong : b ∷ other ≡ [] = same_behind (text_of tables) (text_of is.0) (ap text_of tables_are) same in cc;
+    }
+
+pub syntax_fault : (text left : List ℕ) (at : ℕ) → IsFaultAt Form text left → at ≡ length text - length left → IsSyntaxFault text at
+syntax_fault text left at fault is =
+    let sizes : length text ≡ length fault.front + length left = ap length fault.cut ∙ length-append fault.front left in
+    record { left = left; cut = omega (arith, sizes, is); fault = fault }
+
+-- ---- as the code has it
+
+pub names_seen : (names : List (Bor (List ℕ))) → map parameter_name (words_in names) ≡ map (λ name. parameter_name name.now) names
+names_seen [] = refl
+names_seen (name ∷ names) = ap (λ rest. parameter_name name.now ∷ rest) (names_seen names)

@@ -26,7 +26,7 @@ pub returns-clause-small : goal.returns-clause-small
 returns-clause-small c =
     let some : 0 < c.args.count = (let other = c.if-count-eq0.false in omega (arith, other)) in
     nodes_of_numbers c.args.integer.now c.args.count some _ _ _ _
-    (record { variables_are = c.in_ok-nodes.ensures.variables ∙ c.deref.ensures; highs_are = c.in_ok-nodes.ensures.highs ∙ c.deref-2.ensures; lows_are = c.in_ok-nodes.ensures.lows ∙ c.deref-3.ensures })
+    (record { variables_are = c.in_ok-nodes.ensures.variables ∙ c.deref.ensures.value; highs_are = c.in_ok-nodes.ensures.highs ∙ c.deref-2.ensures.value; lows_are = c.in_ok-nodes.ensures.lows ∙ c.deref-3.ensures.value })
     c.in_ok-variables.ensures.small c.in_ok-highs.ensures.small c.in_ok-lows.ensures.small
 
 pub returns-clause-spelled : goal.returns-clause-spelled
@@ -34,4 +34,4 @@ returns-clause-spelled c =
     let some : 0 < c.args.count = (let other = c.if-count-eq0.false in omega (arith, other)) in
     nodes_read c.args.integer.now c.args.count some _ _ _ c.in_ok-variables.ensures.small c.in_ok-variables.ensures.spelled
     _ _ c.in_ok-highs.ensures.small c.in_ok-highs.ensures.spelled _ _ c.in_ok-lows.ensures.small c.in_ok-lows.ensures.spelled _
-    (record { variables_are = c.in_ok-nodes.ensures.variables ∙ c.deref.ensures; highs_are = c.in_ok-nodes.ensures.highs ∙ c.deref-2.ensures; lows_are = c.in_ok-nodes.ensures.lows ∙ c.deref-3.ensures })
+    (record { variables_are = c.in_ok-nodes.ensures.variables ∙ c.deref.ensures.value; highs_are = c.in_ok-nodes.ensures.highs ∙ c.deref-2.ensures.value; lows_are = c.in_ok-nodes.ensures.lows ∙ c.deref-3.ensures.value })
