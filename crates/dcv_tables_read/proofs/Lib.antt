@@ -26,9 +26,7 @@ mod WholeLemmas
 mod KeptRules
 -- so the tables of an automaton are read back
 mod ReadBack
--- a text spells one unit
-mod SpelledUnits
--- and has one fault at most
+-- a text spells one unit, and has one fault at most
 mod OneFault
 -- worked units
 pub mod ReadExamples
