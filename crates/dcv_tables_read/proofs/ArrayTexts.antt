@@ -9,7 +9,7 @@ use Rattle.dcv_automaton_lines.specs.Pieces.{Exactly, IsStuckIn}
 use Rattle.dcv_automaton_lines.proofs.Pieces.{append_none}
 use Rattle.dcv_automaton_lines.proofs.LineSets.{Some}
 use Rattle.dcv_observer.specs.Layouts.{Each}
-use Rattle.dcv_c_tables.specs.Unit.{TableNode, TableState}
+use Rattle.dcv_c_tables.specs.Unit.{TableNode, TableState, no_node, no_state}
 use Rattle.dcv_c_tables.specs.Layout.{text_in, number_line, opening, closing, char_type, variable_head, high_head, low_head, row_head, accept_head, accept_number, node_arrays, state_arrays}
 use Rattle.dcv_tables_read.specs.Form.{IsSmallNode, IsSmallState}
 use Rattle.dcv_tables_read.specs.declared.entries.Entry.{Entry}
@@ -378,3 +378,102 @@ module _ (integer : List ℕ) (count : ℕ) where
     states_read rest accepts accepts_are last states of =
         whole ∙ ap (λ t. rows_text integer rows ++ t) last ∙ sym (append_assoc (rows_text integer rows) (accepts_text accepts) rest)
         ∙ ap (λ t. t ++ rest) (states_spelled states rows accepts of accepts_are)
+
+-- ---- no spelling is that of two
+
+nodes_same : (nodes other : List TableNode) → map variable_of nodes ≡ map variable_of other → map high_of nodes ≡ map high_of other → map low_of nodes ≡ map low_of other → nodes ≡ other
+nodes_same [] [] v h l = refl
+nodes_same [] (y ∷ ys) v h l = absurd (let none : 0 ≡ suc (length (map variable_of ys)) = ap length v in omega (arith, none))
+nodes_same (x ∷ xs) [] v h l = absurd (let none : suc (length (map variable_of xs)) ≡ 0 = ap length v in omega (arith, none))
+nodes_same (x ∷ xs) (y ∷ ys) v h l =
+    let variable : x.variable ≡ y.variable = cc in
+    let variables : map variable_of xs ≡ map variable_of ys = cc in
+    let high : x.high ≡ y.high = cc in
+    let highs : map high_of xs ≡ map high_of ys = cc in
+    let low : x.low ≡ y.low = cc in
+    let lows : map low_of xs ≡ map low_of ys = cc in
+    λ i. record { variable = variable i; high = high i; low = low i } ∷ nodes_same xs ys variables highs lows i
+
+three_opened : (integer : List ℕ) (nodes : List TableNode) (rest : List ℕ) → 0 < length nodes → nodes_text integer nodes ++ rest
+    ≡ variables_text (map variable_of nodes) ++ (highs_text integer (map high_of nodes) ++ (lows_text integer (map low_of nodes) ++ rest))
+three_opened integer nodes rest some =
+    let variables = variables_text (map variable_of nodes) in
+    let highs = highs_text integer (map high_of nodes) in
+    let lows = lows_text integer (map low_of nodes) in
+    ap (λ t. t ++ rest) (nodes_are integer nodes some) ∙ append_assoc variables (highs ++ lows) rest ∙ ap (λ t. variables ++ t) (append_assoc highs lows rest)
+
+unique_some : (integer : List ℕ) (count : ℕ) → 0 < count → IsUnique (AreNodes count) (nodes_text integer)
+unique_some integer count some x y a b x_is y_is spelled =
+    let same = sym (three_opened integer x a (let many = x_is.many in omega (arith, some, many))) ∙ spelled ∙ three_opened integer y b (let many = y_is.many in omega (arith, some, many)) in
+    let variables = unique_array Number char_type variable_head count (map variable_of x) (map variable_of y) _ _ (of_variables x_is) (of_variables y_is) same in
+    let next = same_behind (variables_text (map variable_of x)) (variables_text (map variable_of y)) (ap variables_text variables) same in
+    let highs = unique_array Number integer high_head count (map high_of x) (map high_of y) _ _ (of_highs x_is) (of_highs y_is) next in
+    let last = same_behind (highs_text integer (map high_of x)) (highs_text integer (map high_of y)) (ap (highs_text integer) highs) next in
+    let lows = unique_array Number integer low_head count (map low_of x) (map low_of y) a b (of_lows x_is) (of_lows y_is) last in
+    nodes_same x y variables highs lows
+
+pub unique_nodes : (integer : List ℕ) (count : ℕ) → IsUnique (AreNodes count) (nodes_text integer)
+unique_nodes integer count [] [] a b x_is y_is same = refl
+unique_nodes integer count [] (y ∷ ys) a b x_is y_is same = absurd (let none : 0 ≡ suc (length ys) = x_is.many ∙ sym y_is.many in omega (arith, none))
+unique_nodes integer count (x ∷ xs) y a b x_is y_is same =
+    unique_some integer count (let many : suc (length xs) ≡ count = x_is.many in omega (arith, many)) (x ∷ xs) y a b x_is y_is same
+
+states_same : (states other : List TableState) → map row_of states ≡ map row_of other → map number_of states ≡ map number_of other → states ≡ other
+states_same [] [] r n = refl
+states_same [] (y ∷ ys) r n = absurd (let none : 0 ≡ suc (length (map row_of ys)) = ap length r in omega (arith, none))
+states_same (x ∷ xs) [] r n = absurd (let none : suc (length (map row_of xs)) ≡ 0 = ap length r in omega (arith, none))
+states_same (x ∷ xs) (y ∷ ys) r n =
+    let row : x.row ≡ y.row = cc in
+    let rows : map row_of xs ≡ map row_of ys = cc in
+    let number : accept_number x.accepts ≡ accept_number y.accepts = cc in
+    let numbers : map number_of xs ≡ map number_of ys = cc in
+    λ i. record { row = row i; accepts = answer x.accepts y.accepts number i } ∷ states_same xs ys rows numbers i
+  where
+    answer : (accepts other : Bool) → accept_number accepts ≡ accept_number other → accepts ≡ other
+    answer true true same = refl
+    answer false false same = refl
+    answer true false same = absurd (omega (arith, same))
+    answer false true same = absurd (omega (arith, same))
+
+pub unique_states : (integer : List ℕ) (count : ℕ) → IsUnique (AreStates count) (states_text integer)
+unique_states integer count x y a b x_is y_is spelled =
+    let same = sym (opened x a) ∙ spelled ∙ opened y b in
+    let rows = unique_array Number integer row_head count (map row_of x) (map row_of y) _ _ (of_rows x x_is) (of_rows y y_is) same in
+    let next = same_behind (rows_text integer (map row_of x)) (rows_text integer (map row_of y)) (ap (rows_text integer) rows) same in
+    let numbers = unique_array Answer char_type accept_head count (map number_of x) (map number_of y) a b (of_numbers x x_is) (of_numbers y y_is) next in
+    states_same x y rows numbers
+  where
+    opened : (states : List TableState) (rest : List ℕ) → states_text integer states ++ rest ≡ rows_text integer (map row_of states) ++ (accepts_text (map number_of states) ++ rest)
+    opened states rest = ap (λ t. t ++ rest) (states_are integer states) ∙ append_assoc (rows_text integer (map row_of states)) (accepts_text (map number_of states)) rest
+    of_rows : (states : List TableState) → AreStates count states → AreEntries Number count (map row_of states)
+    of_rows states is = record { many = map_length row_of states ∙ is.many; each = all_map row_of IsSmallState (λ state small. small.row) states is.each }
+    of_numbers : (states : List TableState) → AreStates count states → AreEntries Answer count (map number_of states)
+    of_numbers states is = record { many = map_length number_of states ∙ is.many; each = small_answers states }
+
+-- ---- some of each number
+
+abbrev zero_nodes : ℕ → List TableNode
+zero_nodes zero = []
+zero_nodes (suc count) = no_node ∷ zero_nodes count
+
+zero_nodes_are : (count : ℕ) → AreNodes count (zero_nodes count)
+zero_nodes_are zero = none_is
+zero_nodes_are (suc count) =
+    let next = zero_nodes_are count in
+    record { many = ap suc next.many; each = All-cons IsSmallNode no_node (zero_nodes count) (record { variable = omega arith; high = omega arith; low = omega arith }) next.each }
+
+abbrev zero_states : ℕ → List TableState
+zero_states zero = []
+zero_states (suc count) = no_state ∷ zero_states count
+
+zero_states_are : (count : ℕ) → AreStates count (zero_states count)
+zero_states_are zero = record { many = refl; each = All-nil IsSmallState }
+zero_states_are (suc count) =
+    let next = zero_states_are count in
+    record { many = ap suc next.many; each = All-cons IsSmallState no_state (zero_states count) (record { row = omega arith }) next.each }
+
+pub some_nodes : (count : ℕ) → (nodes : List TableNode) × AreNodes count nodes
+some_nodes count = (zero_nodes count, zero_nodes_are count)
+
+pub some_states : (count : ℕ) → (states : List TableState) × AreStates count states
+some_states count = (zero_states count, zero_states_are count)

@@ -116,13 +116,18 @@ module _ {X : Type 0} {valid : X → Type 0} {spelled : X → List ℕ} where
   pub some_spelling : (x : X) → valid x → Some (Spellings valid spelled)
   some_spelling x is = record { text = spelled x; is = record { item = x; valid_item = is; is = refl } }
 
+  -- spelled otherwise
+  pub stuck_otherwise : {other : X → List ℕ} {text left : List ℕ} → ((x : X) → valid x → spelled x ≡ other x) → IsStuckIn (Spellings valid spelled) text left
+      → IsStuckIn (Spellings valid other) text left
+  stuck_otherwise same stuck =
+      stuck_same
+      (λ text is. record { item = is.item; valid_item = is.valid_item; is = is.is ∙ same is.item is.valid_item })
+      (λ text is. record { item = is.item; valid_item = is.valid_item; is = is.is ∙ sym (same is.item is.valid_item) })
+      stuck
+
   pub stuck_spelled : {other : X → List ℕ} {text left : List ℕ} → ((x : X) → spelled x ≡ other x) → IsStuckIn (Spellings valid spelled) text left
       → IsStuckIn (Spellings valid other) text left
-  stuck_spelled same stuck =
-      stuck_same
-      (λ text is. record { item = is.item; valid_item = is.valid_item; is = is.is ∙ same is.item })
-      (λ text is. record { item = is.item; valid_item = is.valid_item; is = is.is ∙ sym (same is.item) })
-      stuck
+  stuck_spelled same stuck = stuck_otherwise (λ x _. same x) stuck
 
   pub unique_same : {other : X → List ℕ} → ((x : X) → spelled x ≡ other x) → IsUnique valid spelled → IsUnique valid other
   unique_same same unique = λ x y a b x_is y_is e. unique x y a b x_is y_is (ap (λ w. w ++ a) (same x) ∙ e ∙ ap (λ w. w ++ b) (sym (same y)))
@@ -208,3 +213,10 @@ module _ {T : Type 0} (P : List ℕ → Type 0) (text : List ℕ) where
       → ((left : List ℕ) → IsStuckIn Q rest left → IsStuckIn P text left) → IsStuckBy Q rest stop → IsStuckStop P text result
   stop_passes Q rest result (Syntax stuck) is over here = stops result stuck is (over stuck.left.now here)
   stop_passes Q rest result Memory is over here = no_memory result is
+
+  -- what a call answers is handed on
+  pub stop_carried : (Q : List ℕ → Type 0) (rest : List ℕ) (result : Result T Stop) → ((left : List ℕ) → IsStuckIn Q rest left → IsStuckIn P text left)
+      → IsStuckStop Q rest result → IsStuckStop P text result
+  stop_carried Q rest (Ok read) over is = tt
+  stop_carried Q rest (Err (Syntax stuck)) over is = over stuck.left.now is
+  stop_carried Q rest (Err Memory) over is = tt

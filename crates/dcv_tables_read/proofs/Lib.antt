@@ -10,6 +10,8 @@ pub mod NameLists
 pub mod ArrayTexts
 -- in the functions
 pub mod StepTexts
+-- and in the whole
+pub mod WholeTexts
 -- words are judged in turn
 mod JudgedWords
 -- those of an array
@@ -24,9 +26,7 @@ mod WholeLemmas
 mod KeptRules
 -- so the tables of an automaton are read back
 mod ReadBack
--- a text spells one unit
-mod SpelledUnits
--- and has one fault at most
+-- a text spells one unit, and has one fault at most
 mod OneFault
 -- worked units
 pub mod ReadExamples

@@ -37,7 +37,7 @@ unique_name [] ends x y a b x_is y_is same = absurd ends
 unique_name (e ∷ behind) ends x y a b x_is y_is same =
     (same_names x y (e ∷ behind) a (behind ++ b) x_is.bytes y_is.bytes ends e ends (same ∙ append_assoc y (e ∷ behind) b)).0
 
-p_is : IsNameWord (codes "p")
+pub p_is : IsNameWord (codes "p")
 p_is = record { some = omega arith; bytes = refl }
 
 no_name : (name behind other : List ℕ) → IsNameWord name → (name ++ behind) ++ other ≡ [] → ⊥

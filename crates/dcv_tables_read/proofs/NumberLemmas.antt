@@ -59,7 +59,7 @@ module _ {X : Type 0} (number : X → ℕ) (keeps : ℕ → X → Bool) (xs : Li
     room = omega (arith, left.counted, size_is)
 
     pub one_more : (next : ℕ) → keeps place x ≡ true → next ≡ at + length (text_in (number_line (number x))) → IsLeft (place + 1) next
-    one_more next kept counted = 
+    one_more next kept counted =
         let rest = drop (suc place) xs in
         let further : suc place ≡ place + 1 = omega arith in
         let decides : broken place at (x ∷ rest) ≡ broken (place + 1) next (drop (place + 1) xs) =
@@ -72,7 +72,7 @@ module _ {X : Type 0} (number : X → ℕ) (keeps : ℕ → X → Bool) (xs : Li
         ∙ broken_first (record { bytes = decimal (number x); start = at + 2 }) (keeps place x) (entries (at + length (text_in (number_line (number x)))) (map number (drop (suc place) xs))) (judged_from keeps (place + 1) (drop (suc place) xs)) fails
 
   pub all_kept : (place at : ℕ) → length xs ≤ place → IsLeft place at → IsJudged (entries first (map number xs)) (judged_from keeps 0 xs) (first + size xs) (Ok at)
-  all_kept place at all left = 
+  all_kept place at all left =
       let none = drop_all place xs all in
       (left.same ∙ ap (broken place at) none, omega (arith, left.counted, ap size none))
 

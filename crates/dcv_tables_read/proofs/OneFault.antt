@@ -1,4 +1,4 @@
--- A text has one fault at most, and none where it is read.
+-- A text spells one unit. It has one fault at most, and none where it is read.
 use Rattle.std.proofs.Common.{◌≡◌, ℕ, suc, ◌+◌, ◌<◌, Bool, true, false, List, [], ◌∷◌, ◌++◌, length, Some, None, refl, sym, ap, subst, ◌∙◌, arith, append_assoc}
 use Rattle.std.specs.Prelude.{nat_lt}
 use Rattle.std.proofs.lemmas.Bool.Decides.{nat_tests}
@@ -12,7 +12,12 @@ use Rattle.dcv_c_tables.specs.Unit.{Tables}
 use Rattle.dcv_tables_read.specs.Form.{HasForm, Form, IsSyntaxFault}
 use Rattle.dcv_tables_read.specs.Reading.{IsNamesFault, HasFault, IsReadAs, words_of, judged}
 use Rattle.dcv_tables_read.specs.Laws.{SpellsOne, OneFault, NoFaultWhereRead}
+use Rattle.dcv_tables_read.proofs.WholeTexts.{unique_tables}
 use Rattle.dcv_tables_read.proofs.JudgedWords.{kept_is_unbroken}
+
+pub spells_one : SpellsOne
+spells_one text tables other form also =
+    unique_tables tables other [] [] form.plain also.plain (ap (λ t. t ++ []) (sym form.spelled ∙ also.spelled))
 
 -- ---- syntax
 
@@ -66,26 +71,25 @@ no_syntax text tables at form fault = never_whole Form text fault.left (tables, 
 
 -- ---- either
 
-module _ (one : SpellsOne) where
-  one_broken : (text : List ℕ) (f g : Tables) (at other : ℕ) → HasForm text f → HasForm text g → IsNamesFault f at → IsNamesFault g other → at ≡ other
-  one_broken text f g at other form form' fault fault' =
-      let same = one text f g form form' in
-      let there : Some at ≡ Some other = sym fault ∙ ap (λ tables. first_broken (words_of tables) (judged tables)) same ∙ fault' in
-      cc
+one_broken : (text : List ℕ) (f g : Tables) (at other : ℕ) → HasForm text f → HasForm text g → IsNamesFault f at → IsNamesFault g other → at ≡ other
+one_broken text f g at other form form' fault fault' =
+    let same = spells_one text f g form form' in
+    let there : Some at ≡ Some other = sym fault ∙ ap (λ tables. first_broken (words_of tables) (judged tables)) same ∙ fault' in
+    cc
 
-  pub no_fault_where_read : NoFaultWhereRead
-  no_fault_where_read text tables (Syntax at) is fault = no_syntax text tables at is.form fault
-  no_fault_where_read text tables (Names at) is fault =
-      let same = one text tables fault.0 is.form fault.1 in
-      let wrong : None ≡ Some at = sym (kept_is_unbroken (words_of tables) (judged tables) is.keeps) ∙ ap (λ tables. first_broken (words_of tables) (judged tables)) same ∙ fault.2 in
-      absurd cc
-  no_fault_where_read text tables Memory is fault = fault
+pub no_fault_where_read : NoFaultWhereRead
+no_fault_where_read text tables (Syntax at) is fault = no_syntax text tables at is.form fault
+no_fault_where_read text tables (Names at) is fault =
+    let same = spells_one text tables fault.0 is.form fault.1 in
+    let wrong : None ≡ Some at = sym (kept_is_unbroken (words_of tables) (judged tables) is.keeps) ∙ ap (λ tables. first_broken (words_of tables) (judged tables)) same ∙ fault.2 in
+    absurd cc
+no_fault_where_read text tables Memory is fault = fault
 
-  pub one_fault : OneFault
-  one_fault text (Syntax at) (Syntax other) is its = ap (λ at. Syntax at) (one_syntax text at other is its)
-  one_fault text (Syntax at) (Names other) is its = absurd (no_syntax text its.0 at its.1 is)
-  one_fault text (Syntax at) Memory is its = absurd its
-  one_fault text (Names at) (Syntax other) is its = absurd (no_syntax text is.0 other is.1 its)
-  one_fault text (Names at) (Names other) is its = ap (λ at. Names at) (one_broken text is.0 its.0 at other is.1 its.1 is.2 its.2)
-  one_fault text (Names at) Memory is its = absurd its
-  one_fault text Memory other is its = absurd is
+pub one_fault : OneFault
+one_fault text (Syntax at) (Syntax other) is its = ap (λ at. Syntax at) (one_syntax text at other is its)
+one_fault text (Syntax at) (Names other) is its = absurd (no_syntax text its.0 at its.1 is)
+one_fault text (Syntax at) Memory is its = absurd its
+one_fault text (Names at) (Syntax other) is its = absurd (no_syntax text is.0 other is.1 its)
+one_fault text (Names at) (Names other) is its = ap (λ at. Names at) (one_broken text is.0 its.0 at other is.1 its.1 is.2 its.2)
+one_fault text (Names at) Memory is its = absurd its
+one_fault text Memory other is its = absurd is

@@ -27,9 +27,14 @@ sizes_of integer (node ∷ nodes) some =
     let variables = text_in (array_lines char_type variable_head (lines_of (λ (node : TableNode). node.variable) all)) in
     let highs = text_in (array_lines integer high_head (lines_of (λ (node : TableNode). node.high) all)) in
     let lows = text_in (array_lines integer low_head (lines_of (λ (node : TableNode). node.low) all)) in
-    omega (arith, length-append variables (highs ++ lows), length-append highs lows,
-    array_same char_type variable_head (λ (node : TableNode). node.variable) all, array_same integer high_head (λ (node : TableNode). node.high) all,
-    array_same integer low_head (λ (node : TableNode). node.low) all)
+    omega (
+      arith,
+      length-append variables (highs ++ lows),
+      length-append highs lows,
+      array_same char_type variable_head (λ (node : TableNode). node.variable) all,
+      array_same integer high_head (λ (node : TableNode). node.high) all,
+      array_same integer low_head (λ (node : TableNode). node.low) all,
+    )
 
 pub node_sizes : (integer : List ℕ) (tables : Tables) → 0 < length tables.nodes → length (text_in (node_arrays integer tables.nodes))
     ≡ array_size char_type variable_head (variable_numbers tables) + (array_size integer high_head (high_numbers tables) + array_size integer low_head (low_numbers tables))
@@ -131,6 +136,13 @@ module _ (integer : List ℕ) (at : ℕ) (tables : Tables) where
 
   pub many_nodes : length (node_words integer at tables) ≡ length (keeps_nodes tables)
   many_nodes =
-      omega (arith, many_variables tables char_type variable_head at, many_highs tables integer high_head after_variables, many_lows tables integer low_head after_highs,
-      length-append variables (highs ++ lows), length-append highs lows, length-append (keeps_variables tables) (keeps_highs tables ++ keeps_lows tables),
-      length-append (keeps_highs tables) (keeps_lows tables))
+      omega (
+        arith,
+        many_variables tables char_type variable_head at,
+        many_highs tables integer high_head after_variables,
+        many_lows tables integer low_head after_highs,
+        length-append variables (highs ++ lows),
+        length-append highs lows,
+        length-append (keeps_variables tables) (keeps_highs tables ++ keeps_lows tables),
+        length-append (keeps_highs tables) (keeps_lows tables),
+      )

@@ -72,8 +72,14 @@ module _ (tables : Tables) (integer : List ℕ) (is : integer ≡ type_of tables
       let rows = text_in (array_lines integer row_head (Each row_line tables.states)) in
       let answers = text_in (Each accept_line tables.states) in
       let all = text_in (array_lines char_type accept_head (Each accept_line tables.states)) in
-      omega (arith, length-append rows all, array_same integer row_head (λ (state : TableState). state.row) tables.states, length-append answers (text_in closing),
-      answers_size tables.states, length-append integer (codes " st;\n\nvoid observer_reset(void)\n{\n  st = 0;\n}\n\nint observer_step("))
+      omega (
+        arith,
+        length-append rows all,
+        array_same integer row_head (λ (state : TableState). state.row) tables.states,
+        length-append answers (text_in closing),
+        answers_size tables.states,
+        length-append integer (codes " st;\n\nvoid observer_reset(void)\n{\n  st = 0;\n}\n\nint observer_step("),
+      )
 
   -- the whole text has room for all of it
   pub text_size : names_at + parameters_size tables.parameters ≤ length (text_of tables)
@@ -86,8 +92,16 @@ module _ (tables : Tables) (integer : List ℕ) (is : integer ≡ type_of tables
       let body = text_in (body_lines (type_of tables) tables.parameters (has_nodes tables.nodes)) in
       let step = parameters ++ (codes ")\n{\n" ++ body) in
       let at = ap (λ integer. length (text_in (node_arrays integer tables.nodes)) + length (text_in (state_arrays integer tables.states)) + length (text_in (reset_lines integer))) is in
-      omega (arith, at, length-append counts (nodes ++ (arrays_of_states ++ (reset ++ step))), length-append nodes (arrays_of_states ++ (reset ++ step)),
-      length-append arrays_of_states (reset ++ step), length-append reset step, length-append parameters (codes ")\n{\n" ++ body), parameters_fit tables.parameters)
+      omega (
+        arith,
+        at,
+        length-append counts (nodes ++ (arrays_of_states ++ (reset ++ step))),
+        length-append nodes (arrays_of_states ++ (reset ++ step)),
+        length-append arrays_of_states (reset ++ step),
+        length-append reset step,
+        length-append parameters (codes ")\n{\n" ++ body),
+        parameters_fit tables.parameters,
+      )
 
   -- ---- parts
 
@@ -128,10 +142,20 @@ module _ (tables : Tables) (integer : List ℕ) (is : integer ≡ type_of tables
 
   pub many_words : length (words_of tables) ≡ length (judged tables)
   many_words =
-      omega (arith, ap length words_are, ap length judged_are, length-append count (node_words integer arrays tables ++ (rows ++ names)), length-append (node_words integer arrays tables) (rows ++ names),
-      length-append rows names, length-append (keeps_counts tables) (keeps_nodes tables ++ (keeps_rows tables ++ keeps_parameters [] tables.parameters)),
-      length-append (keeps_nodes tables) (keeps_rows tables ++ keeps_parameters [] tables.parameters), length-append (keeps_rows tables) (keeps_parameters [] tables.parameters),
-      many_nodes integer arrays tables, many_rows tables integer row_head after_nodes, many_parameters names_at [] tables.parameters)
+      omega (
+        arith,
+        ap length words_are,
+        ap length judged_are,
+        length-append count (node_words integer arrays tables ++ (rows ++ names)),
+        length-append (node_words integer arrays tables) (rows ++ names),
+        length-append rows names,
+        length-append (keeps_counts tables) (keeps_nodes tables ++ (keeps_rows tables ++ keeps_parameters [] tables.parameters)),
+        length-append (keeps_nodes tables) (keeps_rows tables ++ keeps_parameters [] tables.parameters),
+        length-append (keeps_rows tables) (keeps_parameters [] tables.parameters),
+        many_nodes integer arrays tables,
+        many_rows tables integer row_head after_nodes,
+        many_parameters names_at [] tables.parameters,
+      )
 
   module _ {Whole : Type 0} (result : Result Whole ℕ) where
     whole_is : IsJudgedWhole (count ++ (node_words integer arrays tables ++ (rows ++ names))) (keeps_counts tables ++ (keeps_nodes tables ++ (keeps_rows tables ++ keeps_parameters [] tables.parameters))) result

@@ -9,7 +9,7 @@
 --     NodesSet, StatesSet            the arrays of so many nodes, and of so many states
 --     NamesOf count, ParametersSet count    the parameters of a step
 --     StepSet integer count some     the functions
-use Rattle.std.specs.Prelude.{◌≡◌, ℕ, ◌+◌, ◌<◌, zero, suc, Bool, false, List, [], ◌∷◌, ◌++◌, length, map, codes}
+use Rattle.std.specs.Prelude.{◌≡◌, ℕ, ◌+◌, ◌<◌, zero, suc, Bool, false, nat_lt, List, [], ◌∷◌, ◌++◌, length, map, codes}
 use Rattle.std.specs.Fmt.{decimal}
 use Rattle.std.specs.List.{All}
 use Rattle.dcv_tokens.specs.Tokens.{is_word_byte}
@@ -169,3 +169,18 @@ step_text integer some names = text_in (reset_lines integer) ++ (parameters_text
 
 abbrev pub StepSet : List ℕ → Bool → ℕ → List ℕ → Type 0
 StepSet integer some count = Spellings (AreNames count) (step_text integer some)
+
+-- ---- the whole
+
+abbrev pub integer_of : CountsValue → List ℕ
+integer_of counts = type_for (counts.states + counts.nodes)
+
+abbrev pub AfterNodes : CountsValue → List ℕ → Type 0
+AfterNodes counts =
+    Then (AreStates counts.states) (states_text (integer_of counts)) (λ _. StepSet (integer_of counts) (nat_lt 0 counts.nodes) counts.variables)
+
+abbrev pub AfterCounts : CountsValue → List ℕ → Type 0
+AfterCounts counts = Then (AreNodes counts.nodes) (nodes_text (integer_of counts)) (λ _. AfterNodes counts)
+
+abbrev pub UnitSet : List ℕ → Type 0
+UnitSet = Then AreCounts counts_text AfterCounts

@@ -58,7 +58,8 @@ fn parameters<'a>(
         return Ok((Vec::new(alloc), rest));
     }
     let first = literal(text, b"int v_")?;
-    names(alloc, first, count)
+    let (listed, rest) = names(alloc, first, count)?;
+    Ok((listed, rest))
 }
 
 // The text after the line of a letter.
@@ -123,14 +124,15 @@ fn body<'a>(
         some,
         b"  while (at >= states) at = letter[variable[at - states]] ? high[at - states] : low[at - states];\n",
     );
-    pieces(
+    let rest = pieces(
         walk,
         &[
             b"  at = row[st];\n",
             walked,
             b"  st = at;\n  return accept[st];\n}\n",
         ],
-    )
+    )?;
+    Ok(rest)
 }
 
 /// The names of the parameters, and the text after the functions.
@@ -146,8 +148,8 @@ pub fn step<'a>(
     ensures fault { IsStuckStop (StepSet integer.now some count) text.now result }
 {
     let reset = b" st;\n\nvoid observer_reset(void)\n{\n  st = 0;\n}\n\nint observer_step(";
-    let open = pieces(text, &[b"static ", integer, reset])?;
-    let (names, inside) = parameters(alloc, open, count)?;
+    let begun = pieces(text, &[b"static ", integer, reset])?;
+    let (names, inside) = parameters(alloc, begun, count)?;
     let rest = body(inside, integer, some, &names)?;
     Ok((names, rest))
 }

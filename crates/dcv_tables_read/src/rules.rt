@@ -150,5 +150,8 @@ pub(crate) fn judge(unit: &TableUnit<'_>) -> Result<(), u32>
     let integer = integer(unit.states.len() + unit.nodes.len());
     let rows = judge_nodes(unit, integer, arrays)?;
     let accepts = judge_rows(unit, integer, rows)?;
-    judge_names(&unit.names, parameters_at(unit.states.len(), integer, accepts))
+    judge_names(
+        &unit.names,
+        parameters_at(unit.states.len(), integer, accepts),
+    )
 }

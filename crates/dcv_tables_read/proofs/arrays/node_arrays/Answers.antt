@@ -1,7 +1,6 @@
-use Rattle.std.proofs.Common.{◌<◌, arith, map}
-use Rattle.dcv_tables_read.specs.Seen.{seen_node}
+use Rattle.std.proofs.Common.{◌<◌, ◌∙◌, arith}
 use Rattle.dcv_tables_read.proofs.Chain.{stop_passes}
-use Rattle.dcv_tables_read.proofs.ArrayTexts.{in_variables, in_highs, in_lows, nodes_of_numbers, nodes_read, AreNodesOf}
+use Rattle.dcv_tables_read.proofs.ArrayTexts.{in_variables, in_highs, in_lows, nodes_of_numbers, nodes_read}
 use Rattle.dcv_tables_read.proofs.arrays.node_arrays.Goals as goal
 
 pub returns-in_err-variables-clause-fault : goal.returns-in_err-variables-clause-fault
@@ -27,7 +26,7 @@ pub returns-clause-small : goal.returns-clause-small
 returns-clause-small c =
     let some : 0 < c.args.count = (let other = c.if-count-eq0.false in omega (arith, other)) in
     nodes_of_numbers c.args.integer.now c.args.count some _ _ _ _
-    (record { variables_are = c.in_ok-nodes.ensures.variables; highs_are = c.in_ok-nodes.ensures.highs; lows_are = c.in_ok-nodes.ensures.lows })
+    (record { variables_are = c.in_ok-nodes.ensures.variables ∙ c.deref.ensures.value; highs_are = c.in_ok-nodes.ensures.highs ∙ c.deref-2.ensures.value; lows_are = c.in_ok-nodes.ensures.lows ∙ c.deref-3.ensures.value })
     c.in_ok-variables.ensures.small c.in_ok-highs.ensures.small c.in_ok-lows.ensures.small
 
 pub returns-clause-spelled : goal.returns-clause-spelled
@@ -35,4 +34,4 @@ returns-clause-spelled c =
     let some : 0 < c.args.count = (let other = c.if-count-eq0.false in omega (arith, other)) in
     nodes_read c.args.integer.now c.args.count some _ _ _ c.in_ok-variables.ensures.small c.in_ok-variables.ensures.spelled
     _ _ c.in_ok-highs.ensures.small c.in_ok-highs.ensures.spelled _ _ c.in_ok-lows.ensures.small c.in_ok-lows.ensures.spelled _
-    (record { variables_are = c.in_ok-nodes.ensures.variables; highs_are = c.in_ok-nodes.ensures.highs; lows_are = c.in_ok-nodes.ensures.lows })
+    (record { variables_are = c.in_ok-nodes.ensures.variables ∙ c.deref.ensures.value; highs_are = c.in_ok-nodes.ensures.highs ∙ c.deref-2.ensures.value; lows_are = c.in_ok-nodes.ensures.lows ∙ c.deref-3.ensures.value })

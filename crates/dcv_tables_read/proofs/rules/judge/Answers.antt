@@ -61,8 +61,19 @@ judge_names-requires c =
     let begins = names_begin tables c.integer-integer.result.now is in
     let fits = text_size tables c.integer-integer.result.now is in
     let names = ap (λ names. parameters_size (parameters_of names)) c.deref.ensures.value in
-    omega (arith, begins, fits, names, c.requires, c.in_ok-arrays.ensures.judged.1, c.in_ok-rows.ensures.1, c.in_ok-accepts.ensures.1, c.parameters_at.ensures, c.len-3.ensures,
-    length-map c.args.unit.now.states.items seen_state)
+    omega (
+      arith,
+      begins,
+      fits,
+      names,
+      c.requires,
+      c.in_ok-arrays.ensures.judged.1,
+      c.in_ok-rows.ensures.1,
+      c.in_ok-accepts.ensures.1,
+      c.parameters_at.ensures,
+      c.len-3.ensures,
+      length-map c.args.unit.now.states.items seen_state,
+    )
 
 pub returns : goal.returns
 returns c =
@@ -70,8 +81,16 @@ returns c =
     let is = integer_is (goal.at.returns c).After-integer-integer in
     let begins = names_begin tables c.integer-integer.result.now is in
     let first : c.parameters_at.result ≡ names_at tables c.integer-integer.result.now is =
-    omega (arith, begins, c.in_ok-arrays.ensures.judged.1, c.in_ok-rows.ensures.1, c.in_ok-accepts.ensures.1, c.parameters_at.ensures, c.len-3.ensures,
-    length-map c.args.unit.now.states.items seen_state) in
+    omega (
+      arith,
+      begins,
+      c.in_ok-arrays.ensures.judged.1,
+      c.in_ok-rows.ensures.1,
+      c.in_ok-accepts.ensures.1,
+      c.parameters_at.ensures,
+      c.len-3.ensures,
+      length-map c.args.unit.now.states.items seen_state,
+    ) in
     at_names tables c.integer-integer.result.now is c.judge_names.result
     c.in_ok-arrays.ensures.judged.0 c.in_ok-arrays.arrays c.in_ok-arrays.ensures.judged.1 c.in_ok-rows.ensures.0 c.in_ok-rows.rows c.in_ok-rows.ensures.1
     c.in_ok-accepts.ensures.0 c.parameters_at.result first

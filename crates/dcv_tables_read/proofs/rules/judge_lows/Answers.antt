@@ -6,7 +6,7 @@ use Rattle.dcv_tables_read.proofs.NumberLemmas.{array_end, array_judged, childre
 use Rattle.dcv_tables_read.proofs.rules.judge_lows.Goals as goal
 
 pub judge_array-requires : goal.judge_array-requires
-judge_array-requires c = 
+judge_array-requires c =
     let end = array_end seen_node (λ (node : TableNode). node.low) c.args.integer.now low_head c.deref.result.now c.args.unit.now.nodes.items c.args.at c.opening-before.result c.deref.ensures.value c.opening-before.ensures in
     omega (arith, end, c.requires.room)
 

@@ -6,7 +6,7 @@ use Rattle.dcv_tables_read.proofs.NumberLemmas.{array_end, array_judged, rows_of
 use Rattle.dcv_tables_read.proofs.rules.judge_rows.Goals as goal
 
 pub judge_array-requires : goal.judge_array-requires
-judge_array-requires c = 
+judge_array-requires c =
     let end = array_end seen_state (λ (state : TableState). state.row) c.args.integer.now row_head c.deref.result.now c.args.unit.now.states.items c.args.at c.opening-before.result c.deref.ensures.value c.opening-before.ensures in
     omega (arith, end, c.requires.room)
 
