@@ -20,6 +20,10 @@
 #   read c 930000             47879153 bytes    2557.3 ms   355.2 MB
 #   steps lustre, steps c         1000 lines     119.8 ms, 107.5 ms, of 30,000 nodes and 30,000 states each
 #   lines lustre, lines c      1000000 lines      46.0 ms, 45.9 ms, 2.0 MB
+#   lines tables               1000000 lines      22.1 ms, 1.7 MB    (2 December 2026, without proofs, on a busy host)
+#
+# Of drawn constant tables, then too: 1,000,000 lines through 32,000 states over two variables 63 ms with the reading, 5 MB; 100,000 lines through a text
+# of 25,566,216 bytes with 1,000,000 nodes over 16 variables 160 ms, 50 MB; one of 133,920,614 bytes, refused for its count of nodes, 720 ms, 249 MB.
 set -euo pipefail
 here=$(cd "$(dirname "$(readlink -f "${BASH_SOURCE[0]}")")" && pwd)
 program=${PROGRAM:-$here/../crates/dcvalid/out/dcvalid}
@@ -57,7 +61,7 @@ done
 
 echo 'var p, q; infer [](<p> => true^<q>);' >"$folder/small.dc"
 awk 'BEGIN { srand(1); for (i = 0; i < 1000000; i++) print int(2 * rand()) int(2 * rand()) }' >"$folder/million.trace"
-for language in lustre c; do
+for language in lustre c tables; do
   "$program" "$language" "$folder/small.dc" >"$folder/small.$language" || true
   measure "$program" "replay-$language" "$folder/small.$language" "$folder/million.trace"
   tell "lines $language" "$(stat -c %s "$folder/million.trace")"

@@ -45,9 +45,11 @@ COMMANDS = [
     ["all", "response.dc"],
     ["certify", "both.aut"], ["convert", "both.aut", "--to", "1"], ["convert", "both.aut", "--to", "2"], ["certify", "each.dc"],
     ["replay-lustre", "response.lus", "trace"], ["replay-c", "response.c", "trace"], ["replay-lustre", "names.lus", "trace"],
-    ["replay-c", "names.c", "trace"], ["implies", "each.dc", "edge.dc"], ["implies", "edge.dc", "edge.dc"], ["synth", "response.dc", "--inputs", "1"],
+    ["replay-c", "names.c", "trace"], ["replay-tables", "response_tables.c", "trace"], ["replay-tables", "names.c", "trace"],
+    ["implies", "each.dc", "edge.dc"], ["implies", "edge.dc", "edge.dc"], ["synth", "response.dc", "--inputs", "1"],
     ["sweep", "7", "3"], ["sweep", "0", "1"], ["check", "capture.dc"], ["all", "each.dc"], ["implies", "each.dc", "fault.dc"],
-    *([f"replay-{kind}", f"each.{end}", trace] for kind, end in (("lustre", "lus"), ("c", "c")) for trace in ("one.trace", "bad.trace", "no.trace")),
+    *([f"replay-{kind}", f"each.{end}", trace] for kind, end in (("lustre", "lus"), ("c", "c"), ("tables", "tab"))
+      for trace in ("one.trace", "bad.trace", "no.trace")),
     ["stuck", "each.dc"], ["stuck", "stuck.dc"], ["stuck", "fault.dc"], ["--help"], ["check"],
     ["together", "each.dc", "both.dc"], ["together", "edge.dc", "stuck.dc", "response.dc"], ["together", "each.dc", "fault.dc", "both.dc"],
     ["together", "response.dc", "stuck.dc", "--tuples", "1"], ["follows", "each.dc", "both.dc"], ["follows", "edge.dc", "each.dc"],
@@ -85,7 +87,8 @@ def main():
             with open(os.path.join(folder, name), "w") as file:
                 file.write(text)
         for words, name in ((["automaton", "both.dc"], "both.aut"), (["lustre", "response.dc"], "response.lus"), (["c", "response.dc"], "response.c"),
-                            (["lustre", "each.dc"], "each.lus"), (["c", "each.dc"], "each.c")):
+                            (["tables", "response.dc"], "response_tables.c"), (["lustre", "each.dc"], "each.lus"), (["c", "each.dc"], "each.c"),
+                            (["tables", "each.dc"], "each.tab")):
             with open(os.path.join(folder, name), "wb") as file:
                 file.write(run(words, folder, library)[1])
         for words in COMMANDS if len(sys.argv) < 3 else [words for words in COMMANDS if words[0] == sys.argv[2]]:
