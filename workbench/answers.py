@@ -34,6 +34,7 @@ WRITTEN: Dict[str, Dict[int, str]] = {
     "convert": {0: r"automaton [12]\nvariables .*\nend\n"},
     "replay-lustre": {0: REPLAYED},
     "replay-c": {0: REPLAYED},
+    "replay-tables": {0: REPLAYED},
     "together": {0: rf"{NAMES}possible [1-9]\d*\n{LETTERS}never stuck\n", 1: rf"{NAMES}(?:possible [1-9]\d*\n{LETTERS}|impossible\n){STUCK}"},
     "follows": {0: rf"{NAMES}follows\n", 1: rf"{NAMES}does not follow [1-9]\d*\n{LETTERS}"},
     "sweep": {0: r"formulas \d+\nvalid \d+\nsatisfiable \d+\nover \d+\nstates \d+\n"},

@@ -1,62 +1,49 @@
-"""Breaches that a walk over an automaton finds, and the pieces of a log, replayed by the program's observer."""
-from typing import Dict, List
+"""What a walk over an automaton finds in a log, replayed by the program's tables."""
+import os
+from typing import Dict
 
-import observers
 from monitors import Monitor
-from program import Program, Refusal
-
-
-class Unconfirmed(Exception):
-    """The program does not confirm what the automaton's text says."""
+from program import Program
+from traces import Trace, Unconfirmed
 
 
 class Confirmation:
-    """The program's observers of the requirements."""
+    """The traces of requirements, in a folder; `everything` where not only breaches are confirmed."""
 
-    def __init__(self, program: Program, pieces: bool) -> None:
-        self.program, self.pieces = program, pieces
-        self.observers: Dict[Monitor, str] = {}
+    def __init__(self, program: Program, room: str, everything: bool, most: int) -> None:
+        self.program, self.room, self.everything, self.most = program, room, everything, most
+        self.traces: Dict[Monitor, Trace] = {}
 
-    def observer(self, monitor: Monitor) -> str:
-        """The observer of a requirement as it was when the piece began."""
-        if monitor not in self.observers:
-            text = self.program.observer(monitor.text)
-            if monitor.rearm:
-                text = observers.rearmed(text, [state for state, accept in enumerate(monitor.automaton.accept) if not accept])
-            self.observers[monitor] = text
-        return observers.from_state(self.observers[monitor], monitor.first)
+    def trace(self, monitor: Monitor) -> Trace:
+        if monitor not in self.traces:
+            path = os.path.join(self.room, str(len(self.traces)))
+            self.traces[monitor] = Trace(self.program, monitor.text, monitor.automaton, monitor.codes, path, self.most)
+        return self.traces[monitor]
 
-    def breach(self, monitor: Monitor, instant: int) -> None:
-        """Replays the piece up to a breach: it is broken where the walk says so, and nowhere else."""
-        try:
-            observer = self.observer(monitor)
-        except Refusal as refusal:
-            if not refusal.over_limits:
-                raise
-            monitor.unconfirmed = f"the observer in C is over a limit ({refusal.message})"
-            return
-        self.same(monitor, instant, self.program.ask("replay-c", observer, monitor.word(instant)).output)
+    def breach(self, monitor: Monitor, codes: str, instant: int, is_told: bool) -> None:
+        """Letters up to a breach, after which the requirement begins anew: the tables answer 0 to the last one, and 1 before."""
+        trace = self.trace(monitor)
+        trace.add(codes)
+        if is_told or self.everything:
+            self.same(monitor, "1" * (trace.size - 1) + "0", instant)
+        trace.restart()
 
-    def same(self, monitor: Monitor, last: int, answers: str) -> None:
-        """Raises Unconfirmed where the program answers otherwise."""
-        wanted: List[str] = []
-        at = monitor.begin
-        for instant in monitor.here:
-            wanted += ["1\n" * (instant - at), "0\n"]
-            at = instant + 1
-        wanted.append("1\n" * (last + 1 - at))
-        if answers != "".join(wanted):
-            found, expected = answers.split(), "".join(wanted).split()
-            place = next((place for place, pair in enumerate(zip(found, expected)) if pair[0] != pair[1]), min(len(found), len(expected)))
-            raise Unconfirmed(f"{monitor.heading.name}: at instant {monitor.begin + place} the program's observer answers otherwise than the automaton's text")
+    def holds(self, monitor: Monitor, last: int) -> None:
+        """The tables answer 1 to all letters, the last of which is that of an instant; nothing is asked where breaches alone are confirmed."""
+        if self.everything and self.trace(monitor).size:
+            self.same(monitor, "1" * self.trace(monitor).size, last)
 
-    def piece(self, monitor: Monitor, last: int) -> None:
-        """Replays a piece that ends at this instant, and the state in which it ends; without --confirm nothing is asked."""
-        if not self.pieces or monitor.size == 0:
-            return
-        self.breach(monitor, last)
-        if monitor.unconfirmed or monitor.here[-1:] == [last]:  # after a breach it begins anew, or is not watched any more
-            return
-        asked = observers.asks_state(self.observer(monitor), monitor.state.number)
-        if not self.program.ask("replay-c", asked, monitor.word(last)).output.endswith("1\n"):
-            raise Unconfirmed(f"{monitor.heading.name}: the program does not confirm the state after instant {last}")
+    def same(self, monitor: Monitor, wanted: str, last: int) -> None:
+        found = self.trace(monitor).answers()
+        if found != wanted:
+            place = next(place for place, pair in enumerate(zip(found, wanted)) if pair[0] != pair[1])
+            at = last + 1 - len(wanted) + place
+            raise Unconfirmed(f"{monitor.heading.name}: at instant {at} the program's observer answers otherwise than the automaton's text")
+
+    def make_room(self, monitor: Monitor, count: int, last: int) -> None:
+        """Before more letters than a trace may have, the letters up to an instant are replaced by fewer that lead to the same state."""
+        trace = self.trace(monitor)
+        if not trace.has_room(count):
+            self.holds(monitor, last)
+            if not trace.shorten(monitor.state.number, self.everything):
+                raise Unconfirmed(f"{monitor.heading.name}: the program does not confirm the state after instant {last}")

@@ -1,10 +1,11 @@
 """Many requirements over the rows of one log, in one pass: each breach is reported as soon as its row is there."""
 from typing import Iterator, List, Protocol, Sequence, Tuple
 
+import limits
 from confirmed import Confirmation
 from lines import LogFault
 from logs import bad_cells
-from monitors import Labels, Monitor, NoTruth, Run
+from monitors import Monitor, NoTruth, Run
 from tabular import Block, cut
 
 
@@ -25,11 +26,9 @@ class EndOfWatch(Exception):
 class Judge:
     """The requirements, and how far the log is read."""
 
-    def __init__(self, monitors: Sequence[Monitor], report: Report, confirmation: Confirmation, piece: int, until_broken: bool) -> None:
-        self.monitors, self.report, self.confirmation = monitors, report, confirmation
-        self.size, self.until_broken = piece, until_broken
-        self.count = self.begin = 0  # instants, and the first one of the piece
-        self.labels = Labels()
+    def __init__(self, monitors: Sequence[Monitor], report: Report, confirmation: Confirmation, until_broken: bool) -> None:
+        self.monitors, self.report, self.confirmation, self.until_broken = monitors, report, confirmation, until_broken
+        self.count = 0  # instants
 
     @property
     def active(self) -> List[Monitor]:
@@ -47,16 +46,14 @@ class Judge:
                     return
         except EndOfWatch:
             return
-        self.end_piece()
+        self.end()
 
     def parts(self, block: Block) -> Iterator[Block]:
-        """A block, cut where a piece ends."""
-        while len(block.labels) > self.begin + self.size - self.count:
-            room = self.begin + self.size - self.count
-            if room:
-                yield cut(block, 0, room)
-                block = cut(block, room, len(block.labels))
-            self.end_piece()
+        """A block, cut so that each part fits into a trace after a word to any state."""
+        size = min(self.confirmation.most, limits.TRACE_LINES - limits.STATES)
+        while len(block.labels) > size:
+            yield cut(block, 0, size)
+            block = cut(block, size, len(block.labels))
         yield block
 
     def part(self, shown: str, part: Block) -> None:
@@ -66,49 +63,50 @@ class Judge:
         except (NoTruth, IndexError):
             part, fault = bad_row(shown, part, active)
             coded = [it.coded(part.rows, part.counts) for it in active]
-        self.labels.add(self.count, part.labels)
-        found = [(instant, number) for number, (it, (short, codes)) in enumerate(zip(active, coded)) for instant in it.take(short, codes, part.counts)]
-        if found:
-            self.tell(active, [codes for _, codes in coded], sorted(found), part)
+        for it in active:
+            self.confirmation.make_room(it, len(part.labels), self.count - 1)
+        found = [it.take(short, codes, part.counts) for it, (short, codes) in zip(active, coded)]
+        self.tell(active, [codes for _, codes in coded], found, part.labels)
         self.count += len(part.labels)
         if fault:
             raise fault
 
-    def tell(self, active: Sequence[Monitor], codes: Sequence[str], found: List[Tuple[int, int]], part: Block) -> None:
-        """Tells breaches, which are confirmed before."""
-        if self.until_broken:
-            for instant, number in found:
-                active[number].breaches -= instant > found[0][0]
-            found = [pair for pair in found if pair[0] == found[0][0]]
-        last = {number: instant for instant, number in found}
-        confirmed = [number for number in last if self.report.wants(active[number])]
-        for number in confirmed:
-            self.confirmation.breach(active[number], last[number])
-        for instant, number in found:
-            it, place = active[number], instant - self.count
-            label, letter = part.labels[place].strip(), it.codes.letters[ord(codes[number][place])]
-            runs = it.runs(instant, self.labels) if it.first_breach is None else []
-            it.first_breach = it.first_breach or (instant, label)
-            self.report.breach(it, instant, label, letter, runs)
-        if self.until_broken:
-            self.count = found[0][0] + 1
+    def tell(self, active: Sequence[Monitor], codes: Sequence[str], found: Sequence[Sequence[int]], labels: Sequence[str]) -> None:
+        """Tells the breaches among some rows, in their order."""
+        places = sorted((place, number) for number, broken in enumerate(found) for place in broken)
+        begin = [0] * len(active)  # where each requirement began anew
+        for place, number in places:
+            if self.until_broken and place > places[0][0]:
+                break
+            self.breach(active[number], codes[number], begin[number], place, labels)
+            begin[number] = place + 1
+        if self.until_broken and places:
+            self.count += places[0][0] + 1
             raise EndOfWatch
-        for number in confirmed:
-            active[number].begin_piece(last[number] + 1, self.labels)
-            active[number].first = 0
+        for it, letters, first in zip(active, codes, begin):
+            self.confirmation.trace(it).add(letters[first:])
+            if it.first_breach is None:
+                it.earlier = it.runs(letters, self.count, labels)
 
-    def end_piece(self) -> None:
-        """The piece ends: what it came by is confirmed where that is wanted, and forgotten."""
+    def breach(self, it: Monitor, codes: str, begin: int, place: int, labels: Sequence[str]) -> None:
+        """Tells a breach, which is confirmed before."""
+        instant, label = self.count + place, labels[place].strip()
+        self.confirmation.breach(it, codes[begin:place + 1], instant, self.report.wants(it))
+        runs = it.runs(codes[:place + 1], self.count, labels) if it.first_breach is None else []
+        it.first_breach = it.first_breach or (instant, label)
+        it.breaches += 1
+        self.report.breach(it, instant, label, it.codes.letters[ord(codes[place])], runs)
+
+    def end(self) -> None:
+        """The log ends, or what was before is forgotten."""
         for it in self.active:
-            self.confirmation.piece(it, self.count - 1)
-            it.begin_piece(self.count, self.labels)
-            it.first = it.state.number
-        self.labels, self.begin = Labels(), self.count
+            self.confirmation.holds(it, self.count - 1)
 
     def begin_anew(self) -> None:
-        self.end_piece()
+        self.end()
         for it in self.active:
             it.begin_anew()
+            self.confirmation.trace(it).restart()
 
 
 def bad_row(shown: str, block: Block, monitors: Sequence[Monitor]) -> Tuple[Block, LogFault]:

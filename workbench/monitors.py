@@ -1,9 +1,8 @@
-"""Requirements that are watched over the rows of one log: each walks the automaton that the program printed, and keeps what it came by.
+"""Requirements that are watched over the rows of one log: each walks the automaton that the program printed.
 
 A letter is one character, its code, so that the letters of many rows are one string. A state is a dictionary from codes to states, so
 that the walk over a string is one call of `reduce`; a step to a state that rejects raises Broken, and is not kept in the dictionary.
 """
-from bisect import bisect_right
 from functools import reduce
 from itertools import accumulate
 from operator import getitem, itemgetter, length_hint, mul
@@ -14,7 +13,6 @@ from automaton import Automaton
 TRUTHS = {"0": "0", "1": "1", "false": "0", "true": "1", "off": "0", "on": "1", "no": "0", "yes": "1"}
 MOST_KNOWN = 1 << 16  # of rows' cells whose code is kept
 MOST_STEPS = 1 << 18  # of a walk that are kept
-SHORT = 1 << 12  # characters of a string that more are added to
 BEFORE = 6  # runs of equal letters that are shown up to a breach
 
 
@@ -78,12 +76,15 @@ class Codes(Dict[Any, str]):
             letter = "".join([TRUTHS[text.strip().lower()] for text in texts]) or "-"
         except KeyError:
             raise NoTruth from None
+        if len(self) >= MOST_KNOWN:
+            self.clear()
+        self[cells] = self.code(letter)
+        return self[cells]
+
+    def code(self, letter: str) -> str:
         if letter not in self.known:
             self.known[letter] = chr(len(self.letters))
             self.letters.append(letter)
-        if len(self) >= MOST_KNOWN:
-            self.clear()
-        self[cells] = self.known[letter]
         return self.known[letter]
 
 
@@ -94,25 +95,6 @@ class Run(NamedTuple):
     last: int
     letter: str
     label: str
-
-
-class Labels:
-    """The labels of the rows of a piece, many in one string."""
-
-    def __init__(self) -> None:
-        self.begins: List[int] = []
-        self.parts: List[str] = []
-
-    def add(self, first: int, labels: Sequence[str]) -> None:
-        if self.parts and len(self.parts[-1]) < SHORT:
-            self.parts[-1] += "\0" + "\0".join(labels)
-        else:
-            self.begins.append(first)
-            self.parts.append("\0".join(labels))
-
-    def at(self, instant: int) -> str:
-        number = bisect_right(self.begins, instant) - 1
-        return self.parts[number].split("\0")[instant - self.begins[number]].strip()
 
 
 def cells_at(places: Sequence[int]) -> Callable[[List[str]], Any]:
@@ -137,7 +119,7 @@ class Heading(NamedTuple):
 
 
 class Monitor:
-    """A requirement, and where it is in the log. Its letters since the piece began are kept."""
+    """A requirement, and where it is in the log."""
 
     def __init__(self, heading: Heading, text: str, automaton: Automaton, places: Sequence[int], rearm: bool = False) -> None:
         self.heading, self.text, self.automaton, self.rearm = heading, text, automaton, rearm
@@ -146,13 +128,9 @@ class Monitor:
         self.cells = cells_at(places)
         self.walk = Walk(automaton, self.codes.letters)
         self.state = self.walk.state(0)
-        self.begin = self.first = self.size = 0  # of the piece: its first instant, the state before it, and its instants
-        self.parts: List[str] = []  # the piece
-        self.here: List[int] = []  # instants of the piece at which it is broken
-        self.earlier: List[Run] = []  # the last runs before the piece
+        self.earlier: List[Run] = []  # the last runs before the rows that are looked at, up to the first breach
         self.breaches = 0
         self.first_breach: Optional[Tuple[int, str]] = None  # its instant and its label
-        self.unconfirmed = ""  # why a breach is not confirmed
         self.is_done = False
 
     def coded(self, rows: Sequence[List[str]], counts: Sequence[int]) -> Tuple[str, str]:
@@ -161,23 +139,14 @@ class Monitor:
         return short, short if len(counts) == sum(counts) else "".join(map(mul, short, counts))
 
     def take(self, short: str, codes: str, counts: Sequence[int]) -> List[int]:
-        """Walks over some rows: the instants among them at which it is broken."""
+        """Walks over some rows: the places at which it is broken. After each it begins anew, or is not watched any more."""
         found: List[int] = []
-        first = self.begin + self.size
         for place in self.by_runs(short, counts) if len(short) * 4 < len(codes) else self.by_rows(codes):
-            found.append(first + place)
-            self.state = self.walk.state(0)
+            found.append(place)
+            self.begin_anew()
             if not self.rearm:
                 self.is_done = True
-                codes = codes[:place + 1]
                 break
-        self.here += found
-        self.breaches += len(found)
-        self.size += len(codes)
-        if self.parts and len(self.parts[-1]) < SHORT:
-            self.parts[-1] += codes
-        else:
-            self.parts.append(codes)
         return found
 
     def by_rows(self, codes: str) -> Iterator[int]:
@@ -204,35 +173,20 @@ class Monitor:
                 if before is self.state:
                     break
 
-    def runs(self, last: int, labels: Labels) -> List[Run]:
-        """The last runs of equal letters up to an instant of the piece."""
-        piece = "".join(self.parts)[:last - self.begin + 1]
+    def runs(self, codes: str, first: int, labels: Sequence[str]) -> List[Run]:
+        """The last runs of equal letters up to the last one of these, which begin at an instant."""
         found: List[Run] = []
-        while piece and len(found) < BEFORE:
-            rest = piece.rstrip(piece[-1])
-            first = self.begin + len(rest)
-            found.append(Run(first, self.begin + len(piece) - 1, self.codes.letters[ord(piece[-1])], labels.at(first)))
-            piece = rest
+        while codes and len(found) < BEFORE:
+            rest = codes.rstrip(codes[-1])
+            found.append(Run(first + len(rest), first + len(codes) - 1, self.codes.letters[ord(codes[-1])], labels[len(rest)].strip()))
+            codes = rest
         found.reverse()
-        if piece or not self.earlier:
+        if codes or not self.earlier:
             return found
         before = self.earlier
         if found and before[-1].letter == found[0].letter:
             before, found[0] = before[:-1], before[-1]._replace(last=found[0].last)
         return [*before, *found][-BEFORE:]
 
-    def word(self, last: int) -> str:
-        """The letters of the piece up to an instant, a line for each."""
-        lines = {number: letter + "\n" for number, letter in enumerate(self.codes.letters)}
-        return "".join(self.parts)[:last - self.begin + 1].translate(lines)
-
-    def begin_piece(self, first: int, labels: Labels) -> None:
-        """A piece ends before this instant, and another one begins."""
-        if first > self.begin and self.first_breach is None:
-            self.earlier = self.runs(first - 1, labels)
-        rest = "".join(self.parts)[first - self.begin:]
-        self.parts, self.size, self.begin = [rest] if rest else [], len(rest), first
-        self.here = [instant for instant in self.here if instant >= first]
-
     def begin_anew(self) -> None:
-        self.state, self.first = self.walk.state(0), 0
+        self.state = self.walk.state(0)

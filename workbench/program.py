@@ -247,10 +247,14 @@ class Program:
 
     def replay(self, observer: str, word: Sequence[str], language: str = "c") -> List[bool]:
         """What an observer answers at each instant of a word."""
-        answers = self.ask(f"replay-{language}", observer, "".join(letter + "\n" for letter in word)).output.split()
-        if len(answers) != len(word):
-            raise Refusal(NO_PROGRAM, f"the program gave no answer: {len(answers)} lines for {len(word)} instants")
-        return [answer == "1" for answer in answers]
+        return [digit == "1" for digit in self.digits(observer, "".join(letter + "\n" for letter in word), len(word), language)]
+
+    def digits(self, observer: str, trace: str, count: int, language: str) -> str:
+        """The same as digits, of a trace of so many lines."""
+        found = self.ask(f"replay-{language}", observer, trace).output.replace("\n", "")
+        if len(found) != count:
+            raise Refusal(NO_PROGRAM, f"the program gave no answer: {len(found)} lines for {count} instants")
+        return found
 
     def fault(self, text: str) -> Optional[Fault]:
         """The fault of a formula file, or None where it has none. Only its reading is waited for: the budget is the least."""

@@ -1,47 +1,58 @@
-"""One requirement over a log: replayed whole by the program's observer, in pieces where the log is long."""
+"""One requirement over a log: replayed whole by the program's tables."""
 import itertools
 from collections import deque
 from typing import Deque, Dict, Iterator, List, MutableSequence, Sequence, Tuple
 
-import observers
-from confirmed import Unconfirmed
+from confirmed import Confirmation
 from lines import LogFault
 from logs import Row, Source, letters_of
-from monitors import BEFORE, Heading, Run
-from program import Program
+from monitors import BEFORE, Monitor, Run
 from signals import Signal
+from traces import Unconfirmed
 from watch_report import MOST, explained, shown_rows
 from waves import instants, runs
 
 BEHIND = 2  # runs of equal rows that are shown after the first violation
+PIECE = 200_000  # rows that are kept in memory
 
 
 class Watch:
-    """A log that is being watched: the state in which the last piece ended, how many rows there were, and what is shown of them."""
+    """A log that is being watched: its state, how many rows there were, and what is shown of them."""
 
-    def __init__(self, program: Program, text: str, rearm: bool) -> None:
-        self.program, self.rearm = program, rearm
-        self.automaton = program.automaton(text)
-        self.observer = program.observer(text)
-        if rearm:
-            rejecting = [state for state, accept in enumerate(self.automaton.accept) if not accept]
-            self.observer = observers.rearmed(self.observer, rejecting)
+    def __init__(self, monitor: Monitor, confirmation: Confirmation) -> None:
+        self.monitor, self.confirmation, self.trace = monitor, confirmation, confirmation.trace(monitor)
         self.state = self.count = self.broken = 0
         self.last = 0  # the last instant at which it is broken
         self.before: Deque[Run] = deque(maxlen=BEFORE)  # runs of rows up to the first violation, each with its first label
         self.after: List[Run] = []  # those that follow it: one more than is shown
         self.violations: List[Tuple[int, str, str]] = []  # instant, label and letter of the first ones
 
-    def piece(self, rows: Sequence[Row], last: bool) -> None:
-        """Takes some more rows; `last` where no others follow."""
-        word = [letter for _, letter in rows]
-        answers = self.program.replay(observers.from_state(self.observer, self.state), word)
-        self.note(rows, word, [place for place, answer in enumerate(answers) if not answer])
-        if not last:
-            self.go_on(word)
+    def piece(self, rows: Sequence[Row]) -> None:
+        """Takes some more rows."""
+        codes = self.trace.coded([letter for _, letter in rows])
+        self.note(rows, self.again(codes) if self.monitor.rearm else self.once(codes))
         self.count += len(rows)
 
-    def note(self, rows: Sequence[Row], word: Sequence[str], broken: Sequence[int]) -> None:
+    def again(self, codes: str) -> List[int]:
+        """The places at which it is broken where it begins anew after each of them."""
+        self.confirmation.make_room(self.monitor, len(codes), self.count - 1)
+        broken, first = self.monitor.take(codes, codes, [1] * len(codes)), 0
+        for place in broken:
+            self.confirmation.breach(self.monitor, codes[first:place + 1], self.count + place, True)
+            first = place + 1
+        self.trace.add(codes[first:])
+        return broken
+
+    def once(self, codes: str) -> List[int]:
+        """The places at which it is broken, by the program alone."""
+        if not self.trace.has_room(len(codes)) and not self.trace.shorten(self.state, True):
+            raise Unconfirmed(f"the program does not confirm that the observer is in state {self.state} after instant {self.count - 1}")
+        self.trace.add(codes)
+        answers = self.trace.answers()[-len(codes):]
+        self.go_on(codes)
+        return [place for place, answer in enumerate(answers) if answer == "0"]
+
+    def note(self, rows: Sequence[Row], broken: Sequence[int]) -> None:
         """Keeps what is told of these rows."""
         begun = 0 if self.violations else broken[0] + 1 if broken else len(rows)
         self.broken += len(broken)
@@ -54,20 +65,14 @@ class Watch:
             keep(self.after, self.count + begun, rows[begun:])
             del self.after[BEHIND + 1:]
 
-    def go_on(self, word: Sequence[str]) -> None:
-        """The state after a piece, by the automaton's text, confirmed by the program."""
-        state = reached = self.state
-        known: Dict[Tuple[int, str], Tuple[int, int]] = {}
-        for letter in word:
-            step = (state, letter)
+    def go_on(self, codes: str) -> None:
+        """The state after more letters, by the automaton's text."""
+        known: Dict[Tuple[int, str], int] = {}
+        for code in codes:
+            step = (self.state, code)
             if step not in known:
-                there = self.automaton.step(state, letter)
-                known[step] = (there, 0 if self.rearm and not self.automaton.accept[there] else there)
-            reached, state = known[step]
-        asked = observers.asks_state(observers.from_state(self.observer, self.state), reached)
-        if not self.program.replay(asked, word)[-1]:
-            raise Unconfirmed(f"the program does not confirm that the observer is in state {reached} after instant {self.count + len(word) - 1}")
-        self.state = state
+                known[step] = self.monitor.automaton.step(self.state, self.monitor.codes.letters[ord(code)])
+            self.state = known[step]
 
 
 def keep(kept: MutableSequence[Run], first: int, rows: Sequence[Row]) -> None:
@@ -79,25 +84,24 @@ def keep(kept: MutableSequence[Run], first: int, rows: Sequence[Row]) -> None:
             kept.append(Run(first + run.first, first + run.last, run.value, rows[run.first][0]))
 
 
-def pieces(rows: Iterator[Row], size: int) -> Iterator[Tuple[List[Row], bool]]:
-    """The rows in pieces, each with whether it is the last."""
+def pieces(rows: Iterator[Row], size: int) -> Iterator[List[Row]]:
     part = list(itertools.islice(rows, size))
     while part:
-        following = list(itertools.islice(rows, size))
-        yield part, not following
-        part = following
+        yield part
+        part = list(itertools.islice(rows, size))
 
 
-def said(heading: Heading, signals: Sequence[Signal], watch: Watch) -> Iterator[str]:
+def said(signals: Sequence[Signal], watch: Watch) -> Iterator[str]:
     if not watch.broken:
         yield f"holds at each of {instants(watch.count)}"
         return
+    heading, rearm = watch.monitor.heading, watch.monitor.rearm
     at, label, _ = watch.violations[0]
-    more = "" if watch.rearm else f"; of {instants(watch.count)} it is broken at {watch.broken}, the last of them {watch.last}"
+    more = "" if rearm else f"; of {instants(watch.count)} it is broken at {watch.broken}, the last of them {watch.last}"
     yield f"broken at instant {at}, row {label}{more}"
     yield from shown_rows(heading.variables, at, label, list(watch.before), watch.after[:BEHIND])
     yield from explained(heading, signals)
-    if watch.rearm:
+    if rearm:
         yield f"{watch.broken} violation{'s' * (watch.broken > 1)} in {instants(watch.count)}; after each the requirement begins anew:"
         for at, label, letter in watch.violations:
             yield f"  instant {at}, row {label}: " + " ".join(f"{name}={digit}" for name, digit in zip(heading.variables, letter))
@@ -105,12 +109,14 @@ def said(heading: Heading, signals: Sequence[Signal], watch: Watch) -> Iterator[
             yield f"  and {watch.broken - len(watch.violations)} more"
 
 
-def judge(program: Program, heading: Heading, text: str, source: Source, rearm: bool, piece: int) -> int:
+def judge(monitor: Monitor, confirmation: Confirmation, source: Source) -> int:
     """Replays the rows of a log and prints the report; 1 where the requirement is broken."""
-    watch = Watch(program, text, rearm)
-    for part, last in pieces(letters_of(source, heading.variables), piece):
-        watch.piece(part, last)
+    watch = Watch(monitor, confirmation)
+    for rows in pieces(letters_of(source, monitor.heading.variables), min(confirmation.most, PIECE)):
+        watch.piece(rows)
     if watch.count == 0:
         raise LogFault(f"{source.shown}: there is no instant")
-    print("\n".join(said(heading, source.settings.signals, watch)))
+    if monitor.rearm:
+        confirmation.holds(monitor, watch.count - 1)
+    print("\n".join(said(source.settings.signals, watch)))
     return 1 if watch.broken else 0

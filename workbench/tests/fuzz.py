@@ -22,6 +22,7 @@ import omega  # noqa: E402
 import suite  # noqa: E402
 from analysis import Analysis  # noqa: E402
 from asked import Questions  # noqa: E402
+from confirmed import Confirmation  # noqa: E402
 from documents import Document  # noqa: E402
 from expand import Text  # noqa: E402
 from expansion import Expansion  # noqa: E402
@@ -29,6 +30,7 @@ from joined import read_requirement  # noqa: E402
 from language import Tree, parse, to_text  # noqa: E402
 from layout import formatted  # noqa: E402
 from logs import rows_of  # noqa: E402
+from monitors import Heading, Monitor  # noqa: E402
 from operands import Question  # noqa: E402
 from explain import Explainer  # noqa: E402
 from pictures import GAP, HIGH, vcd  # noqa: E402
@@ -160,10 +162,11 @@ def judge_watch(case: Case) -> None:
             path = os.path.join(room, name)
             with open(path, "w", encoding="ascii") as file:
                 file.write(text)
-            rows = rows_of(path, ["p", "q"], {}, period=1 if name == "a.vcd" else None)
-            watch = Watch(case.program, case.texts[0], False)
-            for part, last in pieces(rows, 3 if name == "a.vcd" else 6):
-                watch.piece(part, last)
+            rows, size = rows_of(path, ["p", "q"], {}, period=1 if name == "a.vcd" else None), 3 if name == "a.vcd" else 6
+            monitor = Monitor(Heading(name, path, "", "", "pq", {}), case.texts[0], case.program.automaton(case.texts[0]), [])
+            watch = Watch(monitor, Confirmation(case.program, room, True, size))
+            for part in pieces(rows, size):
+                watch.piece(part)
             assert [at + 1 for at, _, _ in watch.violations] == broken and watch.count == 6, name
 
 

@@ -61,11 +61,11 @@ class Programs(WithFolder):
 
     def test_a_replay_that_ends_early(self):
         """The log is broken at instant 3, and three answers are there."""
-        program = self.program('case $1 in replay-c) REAL "$@" | head -n 3; kill -9 $$;; *) exec REAL "$@";; esac')
+        program = self.program('case $1 in replay-tables) REAL "$@" | head -n 3; kill -9 $$;; *) exec REAL "$@";; esac')
         status, out, err = run("ask", *self.words(("watch",)), program=program)
         self.assertEqual((status, out), (125, ""))
         self.assertIn("ended by SIGKILL", err)
-        program = self.program('case $1 in replay-c) REAL "$@" | head -n 3;; *) exec REAL "$@";; esac')
+        program = self.program('case $1 in replay-tables) REAL "$@" | head -n 3;; *) exec REAL "$@";; esac')
         status, out, err = run("ask", *self.words(("watch",)), program=program)
         self.assertEqual((status, out), (125, ""))
         self.assertIn("3 lines for 5 instants", err)

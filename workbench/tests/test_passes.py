@@ -204,6 +204,25 @@ class Passes(WithFolder):
             self.assertEqual((status, out), (125, ""))
             self.assertIn("answers otherwise than the automaton", err)
 
+    def test_a_state_that_is_not_confirmed(self):
+        """An automaton that is late by an instant: its answers are those of the tables, and its state after the first rows is not."""
+        log = self.file("few.csv", "t,request,grant\n0,1,0\n1,0,0\n2,0,1\n")
+        program = self.file("program", f"#!/bin/bash\n'{os.path.abspath(PROGRAM)}' \"$@\" | sed 's/^node n1 request ? n0 : t0/node n1 request ? t0 : n0/'\nexit ${{PIPESTATUS[0]}}\n")
+        os.chmod(program, 0o755)
+        for size, wanted in ((1, 125), (2, 125), (3, 0)):
+            status, _, err = self.ask(RESPONSE, "--log", log, "--confirm", "--piece", str(size), program=program)
+            self.assertEqual((status, "does not confirm the state after instant" in err), (wanted, wanted == 125), err)
+
+    def test_letters_in_a_file(self):
+        """65,536 letters of 16 variables, more than are held in memory, whose codes are all characters, surrogates among them."""
+        names = [f"v{place}" for place in range(16)]
+        rows = [",".join(format(number % 65_536, "016b")) for number in range(70_000)]
+        log = self.file("wide.csv", "\n".join([",".join(["t", *names]), *(f"{number},{row}" for number, row in enumerate(rows))]) + "\n")
+        path = self.file("wide.dc", f"var {', '.join(names)};\ninfer scount (v0 && v1 && v2 && v3) <= 4000;\n")
+        for words in ((), ("--confirm",), ("--confirm", "--piece", "65000")):
+            out = self.ask(path, "--log", log, *words)[1]
+            self.assertEqual(self.results(out), {"wide": "broken at instant 65440, row 65440"})
+
 
 @needs_program
 class Live(WithFolder):

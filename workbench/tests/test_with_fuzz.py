@@ -22,7 +22,7 @@ if BEGUN:
 # A command, what of the workbench is another thing, and what it is.
 PLANTED = (
     ("tests", "suite.answers_of", lambda automaton, word: [0] * len(word)),
-    ("watch", "single.Watch.go_on", lambda watch, word: None),
+    ("watch", "single.Watch.go_on", lambda watch, codes: None),
     ("explain", "explain.words_of", lambda report: {}),
     ("set", "asked.Questions.refuted", lambda questions, left, right: True),
     ("automaton", "tables.Tables.leaf", lambda tables, place, letter: 0),
