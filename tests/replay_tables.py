@@ -163,8 +163,8 @@ def edited(draw, text):
     if way < 0.45:
         numbers = list(re.finditer(rb"\d+", text))
         one = draw.choice(numbers or [re.match(rb"", text)])
-        value = draw.choice([b"0", b"1", b"2", b"010", b"32000", b"32001", b"65536", b"1000001", b"9999999", b"10000000", str(int(one[0]) + 1).encode(),
-                             str(max(0, int(one[0]) - 1)).encode(), draw.choice(numbers or [one])[0], b""])
+        value = draw.choice([b"0", b"1", b"2", b"010", b"32000", b"32001", b"65536", b"1000001", b"9999999", b"10000000", str(int(one[0] or b"0") + 1).encode(),
+                             str(max(0, int(one[0] or b"0") - 1)).encode(), draw.choice(numbers or [one])[0], b""])
         return text[:one.start()] + value + text[one.end():]
     if way < 0.6:
         lines = text.splitlines(keepends=True)
