@@ -1,7 +1,7 @@
 use Rattle.std.proofs.Common.{refl}
 use Rattle.dcv_lexer.specs.Lexicon.{is_orderly}
-use Rattle.dcv_c.specs.Classes.{lexicon}
-use Rattle.dcv_c_read.proofs.translation.UnitTranslationTranslation.lexicon.Goals as goal
+use Rattle.dcv_lustre.specs.Classes.{lexicon}
+use Rattle.dcv_lustre_read.proofs.reading.written.Goals as goal
 
 pub returns-clause-orderly : goal.returns-clause-orderly
 unfolding lexicon is_orderly

@@ -6,7 +6,7 @@ use Rattle.std.proofs.lemmas.Bool.{or_left, or_right, both_ways}
 use Rattle.dcv_observer.specs.Conditions.{Names}
 use Rattle.dcv_observer.specs.Naming.{is_among, AreDistinct}
 use Rattle.dcv_observer.proofs.Naming.{is_itself, differs}
-use Rattle.dcv_translation.specs.Rows.{AreRows, changed}
+use Rattle.dcv_observer.specs.Rows.{AreRows, changed}
 
 -- a name that is there
 pub among_at : (names : Names) (k : ℕ) → k < length names → is_among names (get_or names k []) ≡ true
