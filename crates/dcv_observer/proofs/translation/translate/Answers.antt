@@ -1,4 +1,4 @@
-use Rattle.std.proofs.Common.{◌≡◌, length, map, reverse, refl, ap, sym, subst, ◌∙◌}
+use Rattle.std.proofs.Common.{length, map, reverse, refl, ap, sym, subst, ◌∙◌}
 use Rattle.dcv_grammar.specs.Grammar.{grammar_of}
 use Rattle.dcv_lexer.specs.Lexicon.{lexicon_of}
 use Rattle.dcv_lexer.specs.Cuts.{Token}
