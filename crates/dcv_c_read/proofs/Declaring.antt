@@ -8,7 +8,7 @@ use Rattle.dcv_observer.specs.Naming.{is_among}
 use Rattle.dcv_observer.proofs.Naming.{is_itself, differs, among_append_left, among_append_right, distinct_push}
 use Rattle.dcv_c.specs.Rules.{keeps_new}
 use Rattle.dcv_c_read.specs.Scope.{Row, Frame, with_names, IsRow, KnowsNames}
-use Rattle.dcv_translation.proofs.Rows.{rows_push}
+use Rattle.dcv_observer.proofs.Rows.{rows_push}
 
 -- ---- one more name in a list
 

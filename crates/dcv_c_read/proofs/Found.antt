@@ -8,7 +8,7 @@ use Rattle.dcv_observer.specs.Conditions.{Names}
 use Rattle.dcv_observer.specs.Naming.{is_among}
 use Rattle.dcv_observer.proofs.Declaring.{not_there}
 use Rattle.dcv_observer.proofs.Naming.{one_name}
-use Rattle.dcv_translation.proofs.Rows.{among_at, row_at}
+use Rattle.dcv_observer.proofs.Rows.{among_at, row_at}
 use Rattle.dcv_c_read.specs.declared.scope.Declaration.{Declaration}
 use Rattle.dcv_c_read.specs.Scope.{Frame, seen_row, IsRow, KnowsNames, IsNamed, IsFound}
 

@@ -7,8 +7,8 @@ use Rattle.dcv_observer.specs.Conditions.{Names}
 use Rattle.dcv_observer.specs.Naming.{is_among}
 use Rattle.dcv_observer.proofs.Naming.{is_itself, one_name}
 use Rattle.dcv_c_read.specs.Scope.{Row, Frame, with_known, as_known, IsRow, KnowsNames, IsNamed}
-use Rattle.dcv_translation.specs.Rows.{changed}
-use Rattle.dcv_translation.proofs.Rows.{change_rows, rows_as}
+use Rattle.dcv_observer.specs.Rows.{changed}
+use Rattle.dcv_observer.proofs.Rows.{change_rows, rows_as}
 use Rattle.dcv_c_read.proofs.Found.{named_among}
 
 -- ---- a name that is known from now on

@@ -2,7 +2,8 @@
 use Rattle.std.proofs.Common.{◌≡◌, ℕ, List, [], ◌∷◌, refl, sym, ap, ◌∙◌, subst}
 use Rattle.std.specs.Prelude.{Box}
 use Rattle.std.specs.declared.alloc.Global.{Global}
-use Rattle.dcv_observer.specs.Scheme.{IsOfBody, StandsFor}
+use Rattle.dcv_translation.specs.Scheme.{IsOfBody}
+use Rattle.dcv_observer.specs.Scheme.{over, StandsFor}
 use Rattle.dcv_c.specs.Placed.{PlacedUnit}
 use Rattle.dcv_c.specs.Actions.{Part, AUnit, Nothing, action, scheme, Spells}
 use Rattle.dcv_c.proofs.EachTree.{rule_stands, tree_stands}
@@ -18,7 +19,7 @@ meant Nothing some = some refl
 meant _ some = tt
 
 -- the parts of a body make a part of its rule
-pub body_is_meant : (rule : ℕ) (parts : List Part) → IsOfBody scheme rule parts → IsMeant (action rule parts)
+pub body_is_meant : (rule : ℕ) (parts : List Part) → IsOfBody (over scheme) rule parts → IsMeant (action rule parts)
 body_is_meant rule parts of =
     meant (action rule parts) (λ none. rule_stands rule of.body of.trees of.is_body of.derived (ap (action rule) of.stand ∙ none))
 

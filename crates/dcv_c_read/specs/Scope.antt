@@ -11,7 +11,7 @@ use Rattle.dcv_c.specs.Rules.{keeps_apart, keeps_parameters, keeps_returned}
 use Rattle.dcv_c_read.specs.declared.scope.Declaration.{Declaration}
 use Rattle.dcv_c_read.specs.declared.scope.Scope.{Scope}
 use Rattle.dcv_observer.specs.Judged.{IsLeft}
-use Rattle.dcv_translation.specs.Rows.{AreRows}
+use Rattle.dcv_observer.specs.Rows.{AreRows}
 
 -- ---- the names so far
 

@@ -1,5 +1,6 @@
 // From a text to its unit.
-ghost use Rattle.std.specs.Prelude.{◌≡◌, ◌≢◌, ◌<◌, ◌^◌, ℕ, length, IfOk, IfErr, OnOk};
+ghost use Rattle.std.specs.Prelude.{◌≡◌, ◌≢◌, ◌<◌, ◌^◌, ℕ, length, IsTrue, IfOk, IfErr, OnOk};
+ghost use Rattle.dcv_lexer.specs.Lexicon.{lexicon_of, is_orderly};
 ghost use Rattle.dcv_observer.specs.Items.{IsSyntaxFault};
 ghost use Rattle.dcv_observer.specs.declared.fault.ObsFault.{ObsFault as Fault};
 ghost use Rattle.dcv_observer.specs.declared.fault.ObsFault.TheVariants.{Syntax, Memory};
@@ -12,10 +13,12 @@ ghost use Rattle.dcv_c_read.specs.Seen.{seen_unit};
 use crate::names::named;
 use crate::parts::Part;
 use crate::placed::PlacedUnit;
+use crate::tables::LEXICON;
 use crate::translation::UnitTranslation;
 use dcv_c::laws::texts_are_units_or_at_fault;
 use dcv_c::{CUnit, ObsFault};
-use dcv_translation::translate;
+use dcv_lexer::Lexicon;
+use dcv_observer::translate;
 use std::alloc::Global;
 
 /// The unit of a text, or the one fault of it. Only running out of memory is no fault of the text.
@@ -41,8 +44,17 @@ fn placed_unit<'a>(alloc: Global, text: &'a [u8]) -> Result<Box<PlacedUnit<'a>>,
     ensures spelled { IfOk result (λ placed. Spells text.now (seen_unit placed.value)) }
     ensures fault { IfErr result (λ fault. fault ≢ Memory → (at : ℕ) × (fault ≡ Syntax at) × IsSyntaxFault lexicon language text.now at) }
 {
-    match translate(alloc, &UnitTranslation { alloc }, text)? {
+    match translate(alloc, &UnitTranslation { alloc }, written(), text)? {
         Part::Unit(placed) => Ok(placed),
         _ => unreachable!(),
     }
+}
+
+// What units are written with.
+#[tactic(auto, unfolding(dcv_c::specs::Classes::lexicon))]
+fn written<'a>() -> &'a Lexicon<'a>
+    ensures lexicon { lexicon_of result.now ≡ lexicon }
+    ensures orderly { IsTrue (is_orderly lexicon) }
+{
+    &LEXICON
 }

@@ -7,7 +7,7 @@ ghost use Rattle.dcv_observer.specs.Naming.{is_among};
 ghost use Rattle.dcv_c.specs.Rules.{keeps_new};
 ghost use Rattle.dcv_observer.specs.Judged.{Leads, IsLeft};
 ghost use Rattle.dcv_c_read.specs.Scope.{seen_row, as_known};
-ghost use Rattle.dcv_translation.specs.Rows.{changed};
+ghost use Rattle.dcv_observer.specs.Rows.{changed};
 
 use dcv_c::ObsFault;
 use dcv_observer::{Declared, Item, broken};

@@ -6,7 +6,6 @@ ghost use Rattle.dcv_c_read.specs.Symbols.{seen_part, IsMeant};
 use crate::parts::{Made, Part, Parts, Words};
 use crate::{choices, functions, rules, tables};
 use dcv_grammar::grammar::ContextFree;
-use dcv_lexer::Lexicon;
 use dcv_observer::{Item, NAME, NUMBER};
 use dcv_translation::{Body, Translation};
 use std::alloc::Global;
@@ -19,21 +18,22 @@ pub(crate) struct UnitTranslation {
 }
 
 impl<'a> Translation<'a> for UnitTranslation {
-    ghost use Rattle.dcv_observer.specs.Scheme.{IsOfBody};
+    ghost use Rattle.dcv_observer.specs.Left.{seen};
+    ghost use Rattle.dcv_observer.specs.Scheme.{over};
+    ghost use Rattle.dcv_translation.specs.Scheme.{IsOfBody};
     ghost use Rattle.dcv_c.specs.Actions.{Part as PlainPart, has_part, scheme};
 
     type Part = Part<'a>;
 
+    type Token = Item<'a>;
+
     ghost Meaning = { PlainPart };
 
-    ghost scheme = { scheme };
+    ghost scheme = { over scheme };
 
     ghost meaning = { seen_part };
 
-    #[tactic(auto, unfolding(dcv_c::specs::Classes::lexicon))]
-    fn lexicon(&self) -> &'a Lexicon<'a> {
-        &tables::LEXICON
-    }
+    ghost seen = { seen };
 
     #[tactic(auto, unfolding(dcv_c::specs::Language::language, dcv_grammar::specs::Predictive::IsPredictive))]
     fn grammar(&self) -> &'a ContextFree<'a> {
@@ -51,7 +51,7 @@ impl<'a> Translation<'a> for UnitTranslation {
     }
 
     fn rule(&self, rule: u8, parts: &mut Parts<'a>) -> Made<'a>
-        requires { IsOfBody scheme rule (map seen_part parts.old) }
+        requires { IsOfBody (over scheme) rule (map seen_part parts.old) }
         ensures { IfOk result (λ part. seen_part part ≡ action rule (map seen_part parts.old)) }
     {
         act(self.alloc, rule, parts)

@@ -23,8 +23,8 @@ use Rattle.dcv_observer.specs.Left.{seen}
 use Rattle.dcv_observer.specs.Naming.{is_among, AreDistinct}
 use Rattle.dcv_observer.proofs.Naming.{is_itself, differs, among_append_left, among_append_right, distinct_apart, distinct_behind}
 use Rattle.dcv_observer.specs.Subsets.{first_broken}
-use Rattle.dcv_translation.specs.Rows.{AreRows}
-use Rattle.dcv_translation.proofs.Rows.{among_at}
+use Rattle.dcv_observer.specs.Rows.{AreRows}
+use Rattle.dcv_observer.proofs.Rows.{among_at}
 use Rattle.dcv_lustre_read.proofs.NameKinds.{of_kind, named, none_of_kind, no_input, with_first}
 
 -- ---- the kinds of locals

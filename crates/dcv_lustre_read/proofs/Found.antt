@@ -9,7 +9,7 @@ use Rattle.dcv_observer.specs.Conditions.{Names}
 use Rattle.dcv_observer.specs.Naming.{is_among}
 use Rattle.dcv_observer.proofs.Declaring.{not_there}
 use Rattle.dcv_observer.proofs.Naming.{one_name}
-use Rattle.dcv_translation.proofs.Rows.{among_at, row_at}
+use Rattle.dcv_observer.proofs.Rows.{among_at, row_at}
 use Rattle.dcv_lustre.specs.Tree.{Node}
 use Rattle.dcv_lustre.specs.Meaning.{names_of}
 use Rattle.dcv_lustre.specs.Rules.{declared, kind_of}

@@ -21,8 +21,8 @@ use Rattle.dcv_lustre_read.specs.Seen.{seen_equation}
 use Rattle.dcv_lustre_read.specs.Scope.{Row, seen_row, IsRow, Knows, KnowsAll, IsFoundAs, as_known}
 use Rattle.dcv_observer.specs.Judged.{IsLeft}
 use Rattle.dcv_lustre_read.specs.Judged.{words_of_equations}
-use Rattle.dcv_translation.specs.Rows.{changed}
-use Rattle.dcv_translation.proofs.Rows.{all_rows, change_rows}
+use Rattle.dcv_observer.specs.Rows.{changed}
+use Rattle.dcv_observer.proofs.Rows.{all_rows, change_rows}
 use Rattle.dcv_lustre_read.proofs.NameKinds.{names_distinct, no_input}
 use Rattle.dcv_observer.proofs.SoFar.{one_more}
 use Rattle.dcv_observer.proofs.Declaring.{or_turned}

@@ -12,7 +12,7 @@ use Rattle.dcv_lustre.specs.Meaning.{names_of}
 use Rattle.dcv_lustre.specs.Rules.{most_inputs, is_same_kind, lefts_of, declared, keeps_declared, kind_of}
 use Rattle.dcv_lustre_read.specs.declared.scope.Declaration.{Declaration}
 use Rattle.dcv_observer.specs.Judged.{IsLeft}
-use Rattle.dcv_translation.specs.Rows.{AreRows}
+use Rattle.dcv_observer.specs.Rows.{AreRows}
 
 -- ---- while names are declared
 

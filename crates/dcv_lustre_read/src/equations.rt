@@ -13,7 +13,7 @@ ghost use Rattle.dcv_lustre_read.specs.Seen.{seen_right, seen_equation};
 ghost use Rattle.dcv_lustre_read.specs.Scope.{seen_row, as_known, fits_form, Knows, KnowsAll, IsFoundAs};
 ghost use Rattle.dcv_observer.specs.Judged.{Keeps, Leads, IsLeft};
 ghost use Rattle.dcv_lustre_read.specs.Judged.{words_of_equations};
-ghost use Rattle.dcv_translation.specs.Rows.{changed};
+ghost use Rattle.dcv_observer.specs.Rows.{changed};
 
 use crate::placed::{PlacedEquation, PlacedRight};
 use crate::scope::{Declaration, Scope};

@@ -1,5 +1,6 @@
 // From a text to its node.
-ghost use Rattle.std.specs.Prelude.{◌≡◌, ◌≢◌, ◌<◌, ◌^◌, ℕ, length, IfOk, IfErr, OnOk};
+ghost use Rattle.std.specs.Prelude.{◌≡◌, ◌≢◌, ◌<◌, ◌^◌, ℕ, length, IsTrue, IfOk, IfErr, OnOk};
+ghost use Rattle.dcv_lexer.specs.Lexicon.{lexicon_of, is_orderly};
 ghost use Rattle.dcv_observer.specs.Items.{IsSyntaxFault};
 ghost use Rattle.dcv_observer.specs.declared.fault.ObsFault.{ObsFault as Fault};
 ghost use Rattle.dcv_observer.specs.declared.fault.ObsFault.TheVariants.{Syntax, Memory};
@@ -12,10 +13,12 @@ ghost use Rattle.dcv_lustre_read.specs.Seen.{seen_node};
 use crate::names::named;
 use crate::parts::Part;
 use crate::placed::PlacedNode;
+use crate::tables::LEXICON;
 use crate::translation::NodeTranslation;
+use dcv_lexer::Lexicon;
 use dcv_lustre::laws::texts_are_nodes_or_at_fault;
 use dcv_lustre::{Node, ObsFault};
-use dcv_translation::translate;
+use dcv_observer::translate;
 use std::alloc::Global;
 
 /// The node of a text, or the one fault of it. Only running out of memory is no fault of the text.
@@ -41,8 +44,17 @@ fn placed_node<'a>(alloc: Global, text: &'a [u8]) -> Result<Box<PlacedNode<'a>>,
     ensures spelled { IfOk result (λ placed. Spells text.now (seen_node placed.value)) }
     ensures fault { IfErr result (λ fault. fault ≢ Memory → (at : ℕ) × (fault ≡ Syntax at) × IsSyntaxFault lexicon language text.now at) }
 {
-    match translate(alloc, &NodeTranslation { alloc }, text)? {
+    match translate(alloc, &NodeTranslation { alloc }, written(), text)? {
         Part::Node(placed) => Ok(placed),
         _ => unreachable!(),
     }
+}
+
+// What nodes are written with.
+#[tactic(auto, unfolding(dcv_lustre::specs::Classes::lexicon))]
+fn written<'a>() -> &'a Lexicon<'a>
+    ensures lexicon { lexicon_of result.now ≡ lexicon }
+    ensures orderly { IsTrue (is_orderly lexicon) }
+{
+    &LEXICON
 }

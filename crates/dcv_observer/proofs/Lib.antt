@@ -16,3 +16,5 @@ pub mod Readings
 pub mod Judging
 pub mod Declaring
 pub mod SoFar
+pub mod Rows
+pub mod Within

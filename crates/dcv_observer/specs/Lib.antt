@@ -12,3 +12,5 @@ pub mod Subsets
 pub mod Judged
 -- what the lexer has left
 pub mod Left
+-- what readers tell of names
+pub mod Rows

@@ -1,15 +1,15 @@
--- Translation schemes: what the derivation trees of a language stand for.
+-- Translation schemes of texts: what the derivation trees of a language stand for.
 --     Scheme                        a language, what its tokens stand for, and the action of each rule
---     parts_of_token scheme class token    what a token of a class stands for: one part, or nothing
+--     over scheme                   the same over its tokens
+--     written lexicon scheme        and back
 --     parts_of scheme trees         what trees stand for
---     IsOfBody scheme rule parts    the trees of a body of the rule stand for the parts
 --     StandsFor scheme text part    the text is a sentence, whose tree stands for the part
-use Rattle.std.specs.Prelude.{◌≡◌, ℕ, Bool, if◌then◌else◌, List, [], ◌∷◌, ◌++◌}
-use Rattle.dcv_grammar.specs.declared.grammar.Symbol.{Symbol}
-use Rattle.dcv_grammar.specs.Grammar.{ContextFree, IsBody}
-use Rattle.dcv_grammar.specs.Trees.{Nodes, done, leaf, node, AreTrees, IsTree}
+use Rattle.std.specs.Prelude.{◌≡◌, ℕ, Bool, List, [], ◌∷◌}
+use Rattle.dcv_grammar.specs.Grammar.{ContextFree}
+use Rattle.dcv_grammar.specs.Trees.{Nodes, IsTree}
 use Rattle.dcv_lexer.specs.Lexicon.{Lexicon}
 use Rattle.dcv_lexer.specs.Cuts.{Token}
+use Rattle.dcv_translation.specs.Scheme as tokens
 use Rattle.dcv_observer.specs.Items.{HasItems, token_class}
 
 pub record Scheme (Part : Type 0) : Type 0 where
@@ -21,22 +21,31 @@ pub record Scheme (Part : Type 0) : Type 0 where
   -- of the rule with a number, by what the symbols of its body stand for
   pub action : ℕ → List Part → Part
 
+abbrev pub over : {Part : Type 0} → Scheme Part → tokens.Scheme Part
+over scheme =
+    record {
+      grammar = scheme.grammar;
+      class = token_class scheme.lexicon;
+      has_part = scheme.has_part;
+      of_token = scheme.of_token;
+      action = scheme.action;
+    }
+
+abbrev pub written : {Part : Type 0} → Lexicon → tokens.Scheme Part → Scheme Part
+written lexicon scheme =
+    record {
+      lexicon = lexicon;
+      grammar = scheme.grammar;
+      has_part = scheme.has_part;
+      of_token = scheme.of_token;
+      action = scheme.action;
+    }
+
 abbrev pub parts_of_token : {Part : Type 0} → Scheme Part → ℕ → Token → List Part
-parts_of_token scheme class token = if scheme.has_part class then scheme.of_token token ∷ [] else []
+parts_of_token scheme class token = tokens.parts_of_token (over scheme) class token
 
--- what derivation trees stand for, from left to right
 abbrev pub parts_of : {Part : Type 0} → Scheme Part → Nodes Token → List Part
-parts_of scheme done = []
-parts_of scheme (leaf token next) = parts_of_token scheme (token_class scheme.lexicon token) token ++ parts_of scheme next
-parts_of scheme (node rule inner next) = scheme.action rule (parts_of scheme inner) ∷ parts_of scheme next
-
--- the parts of what one of the bodies of a rule derives
-pub record IsOfBody {Part : Type 0} (scheme : Scheme Part) (rule : ℕ) (parts : List Part) : Type 0 where
-  pub body : List Symbol
-  pub is_body : IsBody scheme.grammar rule body
-  pub trees : Nodes Token
-  pub derived : AreTrees scheme.grammar (token_class scheme.lexicon) body trees
-  pub stand : parts_of scheme trees ≡ parts
+parts_of scheme trees = tokens.parts_of (over scheme) trees
 
 -- the tokens have a derivation that stands for the part
 pub record StandsFor {Part : Type 0} (scheme : Scheme Part) (text : List ℕ) (part : Part) : Type 0 where

@@ -14,6 +14,7 @@ pub mod laws;
 mod names;
 mod numbers;
 mod syntax;
+mod translation;
 
 pub use conditions::{Condition, Test};
 pub use fault::ObsFault;
@@ -22,3 +23,4 @@ pub use judge::broken;
 pub use names::Declared;
 pub use numbers::{is_number, number_at};
 pub use syntax::syntax_fault;
+pub use translation::translate;

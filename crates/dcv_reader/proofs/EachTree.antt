@@ -1,5 +1,5 @@
 -- Each derivation tree of the grammar stands for a file: the parts that a body's symbols stand for are those of an equation.
-use Rattle.std.proofs.Common.{◌≡◌, ℕ, zero, suc, List, [], ◌∷◌, Option, Some, None, refl, sym, ap, ◌∙◌, subst}
+use Rattle.std.proofs.Common.{◌≡◌, ℕ, zero, suc, List, [], ◌∷◌, Option, Some, None, length, ◌≤◌, refl, sym, ap, ◌∙◌, subst, arith}
 use Rattle.std.specs.Prelude.{⊤, Contains, slice_get, slice_index_or}
 use Rattle.std.specs.List.{AllByRecursion}
 use Rattle.std.proofs.lemmas.List.Elements.{All-from_recursion}
@@ -13,9 +13,12 @@ use Rattle.dcv_grammar.specs.Grammar.{Production, IsBody, bodies}
 use Rattle.dcv_grammar.specs.Trees.{Nodes, done, leaf, node, AreTrees}
 use Rattle.dcv_grammar.proofs.Derivations.{rule_with}
 use Rattle.dcv_tokens.specs.Tokens.{Token}
-use Rattle.dcv_sentence.specs.Language.{file_rules, formula_rules, prop_rules, language}
+use Rattle.dcv_sentence.specs.Language.{file_rules, formula_rules, prop_rules, formula_atom_rule, language}
+use Rattle.dcv_sentence.specs.RuleNumbers.{formula_atom}
+use Rattle.dcv_translation.specs.Scheme.{IsOfBody}
 use Rattle.dcv_reader.specs.Nodes.{token_class}
-use Rattle.dcv_reader.specs.Actions.{Part, AToken, Names, Arguments, ARelation, AProp, AFormula, Props, Formulas, Stars, AMacro, Macros, AFile, Nothing, actions, action, parts_of, prop_implies_part, formula_implies_part}
+use Rattle.dcv_reader.specs.Parts.{IsMeant, HasNumber}
+use Rattle.dcv_reader.specs.Actions.{Part, AToken, Names, Arguments, ARelation, AProp, AFormula, Props, Formulas, Stars, AMacro, Macros, AFile, Nothing, actions, action, scheme, parts_of, prop_implies_part, formula_implies_part}
 
 -- ---- sorts of parts
 
@@ -122,12 +125,12 @@ value_in sort part is = absurd is
 
 abbrev Values : List Symbol → Type 0
 Values [] = ⊤
-Values (Class class ∷ symbols) = Token × Values symbols
+Values (Class class ∷ symbols) = ((token : Token) × (token_class token ≡ class)) × Values symbols
 Values (Rule number ∷ symbols) = ValueOf (sort_of number) × Values symbols
 
 abbrev parts_from : (symbols : List Symbol) → Values symbols → List Part
 parts_from [] values = []
-parts_from (Class class ∷ symbols) values = AToken values.0 ∷ parts_from symbols values.1
+parts_from (Class class ∷ symbols) values = AToken values.0.0 ∷ parts_from symbols values.1
 parts_from (Rule number ∷ symbols) values = part_of (sort_of number) values.0 ∷ parts_from symbols values.1
 
 -- each body of each rule stands for a part of the rule's sort
@@ -280,7 +283,7 @@ trees_stand [] (node rule inner next) h = absurd h
 trees_stand (Class class ∷ symbols) done h = absurd h
 trees_stand (Class class ∷ symbols) (leaf token next) h =
     let (values, is) = trees_stand symbols next h.1 in
-    ((token, values), ap (λ (parts : List Part). AToken token ∷ parts) is)
+    (((token, h.0), values), ap (λ (parts : List Part). AToken token ∷ parts) is)
 trees_stand (Class class ∷ symbols) (node rule inner next) h = absurd h
 trees_stand (Rule number ∷ symbols) done h = absurd h
 trees_stand (Rule number ∷ symbols) (leaf token next) h = absurd h
@@ -299,3 +302,74 @@ trees_stand (Rule number ∷ symbols) (node rule inner next) h =
 pub tree_stands : (tree : Nodes Token) → AreTrees language token_class (Rule language.start ∷ []) tree → (file : PlainFile) × (parts_of tree ≡ AFile file ∷ [])
 unfolding language
 tree_stands tree are = let (values, is) = trees_stand (Rule language.start ∷ []) tree are in (values.0, is)
+
+-- ---- what a body stands for
+
+meant_value : (sort : Sort) (value : ValueOf sort) → IsMeant (part_of sort value)
+meant_value OfNames value = tt
+meant_value _ value = tt
+
+-- the parts of a body make a part of its rule
+pub body_is_meant : (rule : ℕ) (parts : List Part) → IsOfBody scheme rule parts → IsMeant (action rule parts)
+body_is_meant rule parts of =
+    let (values, is) = trees_stand of.body of.trees of.derived in
+    let (value, made) = value_in (sort_of rule) (action rule (parts_from of.body values)) (body_stands rule of.body values of.is_body) in
+    subst (λ (l : List Part). IsMeant (action rule l)) (sym is ∙ of.stand) (subst IsMeant (sym made) (meant_value (sort_of rule) value))
+
+-- a relation is one with a number
+numbers_follow : AllByRecursion (λ body. (values : Values body) → HasNumber (parts_from body values)) (bodies formula_atom_rule)
+numbers_follow = (
+  λ v. tt,
+  (
+    λ v. tt,
+    (
+      λ v. tt,
+      (
+        λ v. tt,
+        (
+          λ v. tt,
+          (
+            λ v. tt,
+            (
+              λ v. tt,
+              (
+                λ v. tt,
+                (
+                  λ v. tt,
+                  (
+                    λ v. tt,
+                    (λ v. v.1.1.0.1, (λ v. v.1.1.1.0.1, (λ v. v.1.1.1.0.1, tt))),
+                  ),
+                ),
+              ),
+            ),
+          ),
+        ),
+      ),
+    ),
+  ),
+)
+
+atom_at : slice_get language.productions formula_atom ≡ Some formula_atom_rule
+unfolding language file_rules formula_rules prop_rules
+atom_at = refl
+
+pub number_follows : (parts : List Part) → IsOfBody scheme formula_atom parts → HasNumber parts
+number_follows parts of =
+    let (values, is) = trees_stand of.body of.trees of.derived in
+    let (rule, at, contains) = rule_with language formula_atom of.body of.is_body in
+    let both : Some rule ≡ Some formula_atom_rule = sym at ∙ atom_at in
+    let same : rule ≡ formula_atom_rule = cc in
+    subst HasNumber (sym is ∙ of.stand)
+    (body_agrees (λ body. (values : Values body) → HasNumber (parts_from body values)) (bodies formula_atom_rule) of.body numbers_follow
+    (subst (λ (x : Production). Contains (bodies x) of.body) same contains) values)
+
+-- a rule that has no number stands for nothing
+past_end : {A : Type 0} (xs : List A) (n : ℕ) (other : A) → length xs ≤ n → slice_index_or xs n other ≡ other
+past_end [] n other beyond = refl
+past_end (x ∷ xs) zero other beyond = absurd (omega arith)
+past_end (x ∷ xs) (suc n) other beyond = past_end xs n other (omega arith)
+
+pub known_rule : (rule : ℕ) (parts : List Part) → IsMeant (action rule parts) → 34 ≤ rule → ⊥
+known_rule rule parts meant beyond =
+    subst (λ (act : List Part → Part). IsMeant (act parts)) (past_end actions rule (λ parts. Nothing) beyond) meant

@@ -1,11 +1,6 @@
-pub mod BuilderParts
-pub mod BuilderLists
-pub mod BuilderProps
-pub mod BuilderLevels
-pub mod BuilderForms
-pub mod BuilderFormulas
+pub mod Listed
 pub mod Trees
-pub mod BuilderFiles
 pub mod EachTree
+pub mod Leaves
 pub mod SomeReadings
 pub mod Names

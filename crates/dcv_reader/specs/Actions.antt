@@ -2,8 +2,9 @@
 --     Part                  what a symbol stands for
 --     RULE_part parts       what a rule stands for, by the parts of its body
 --     action rule parts     the same, for the number of a rule
+--     scheme                the grammar and the actions
 --     parts_of trees        what derivation trees stand for
-use Rattle.std.specs.Prelude.{ℕ, List, [], ◌∷◌, map, Option, Some, None, slice_index_or}
+use Rattle.std.specs.Prelude.{ℕ, true, List, [], ◌∷◌, map, Option, Some, None, slice_index_or}
 use Rattle.dcv_syntax.specs.declared.names.Name.{Name}
 use Rattle.dcv_syntax.specs.declared.names.Span.{Span}
 use Rattle.dcv_syntax.specs.declared.formulas.Relation.{Relation}
@@ -11,9 +12,12 @@ use Rattle.dcv_syntax.specs.declared.propositions.Connective.{Connective}
 use Rattle.dcv_syntax.specs.declared.propositions.Connective.TheVariants.{And, Or, Iff}
 use Rattle.dcv_syntax.specs.Plain.{PlainProp, PlainPropOperand, FormulaSlen, FormulaJoined, FormulaChop, PlainFormulaOperand}
 use Rattle.dcv_syntax.specs.Plain.{FormulaBody, PropBody, PlainMacro, PlainFile}
-use Rattle.dcv_grammar.specs.Trees.{Nodes, done, leaf, node}
+use Rattle.dcv_grammar.specs.Trees.{Nodes}
+use Rattle.dcv_translation.specs.Scheme as translation
+use Rattle.dcv_translation.specs.Scheme.{Scheme}
 use Rattle.dcv_tokens.specs.Tokens.{Token, span_of, span_over}
-use Rattle.dcv_reader.specs.Nodes.{name_of, number_of, relation_of, prop_constant, prop_call, prop_prefixed, prop_implication, prop_list}
+use Rattle.dcv_sentence.specs.Language.{language}
+use Rattle.dcv_reader.specs.Nodes.{token_class, name_of, number_of, relation_of, prop_constant, prop_call, prop_prefixed, prop_implication, prop_list}
 use Rattle.dcv_reader.specs.Nodes.{bare, bracketed, formula_word, measure, formula_call, starred_by, prefixed, quantified, implication, formula_list}
 
 -- what a symbol stands for
@@ -191,8 +195,10 @@ actions =
 abbrev pub action : ℕ → List Part → Part
 action rule parts = (slice_index_or actions rule (λ parts. Nothing)) parts
 
+-- each token stands for itself
+abbrev pub scheme : Scheme Part
+scheme = record { grammar = language; class = token_class; has_part = λ class. true; of_token = AToken; action = action }
+
 -- what derivation trees stand for, from left to right
 abbrev pub parts_of : Nodes Token → List Part
-parts_of done = []
-parts_of (leaf token next) = AToken token ∷ parts_of next
-parts_of (node rule inner next) = action rule (parts_of inner) ∷ parts_of next
+parts_of trees = translation.parts_of scheme trees

@@ -3,8 +3,6 @@ pub mod Nodes
 pub mod Actions
 pub mod Spelling
 pub mod Laws
--- for proofs alone: what the builder of trees requires and ensures
-pub mod Building
-pub mod Left
+-- for proofs alone: how the parts of the code are seen
 pub mod Lists
-pub mod BuildingFiles
+pub mod Parts

@@ -5,7 +5,7 @@ ghost use Rattle.dcv_sentence.specs.declared.faults.ReadFault.{ReadFault};
 ghost use Rattle.dcv_sentence.specs.Faults.{HasFault, IsFirstFault};
 ghost use Rattle.dcv_reader.specs.Spelling.{Spells};
 
-use crate::builder::build_file;
+use crate::translation::file_of;
 use dcv_sentence::{ReadFault, sentence_of};
 use dcv_syntax::File;
 use std::alloc::Global;
@@ -19,5 +19,5 @@ pub fn read_file(alloc: Global, bytes: &[u8]) -> Result<File, ReadFault>
     ensures fault { IfErr result (λ fault. fault ≢ ReadFault.Memory → IsFirstFault bytes.now fault) }
 {
     let tokens = sentence_of(alloc, bytes)?;
-    Ok(build_file(alloc, &tokens)?)
+    Ok(file_of(alloc, &tokens)?)
 }

@@ -8,7 +8,7 @@
 #![tactic(auto)]
 
 mod faults;
-mod language;
+pub mod language;
 pub mod laws;
 mod scan;
 mod sentence;

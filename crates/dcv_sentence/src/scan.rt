@@ -8,8 +8,7 @@ ghost use Rattle.dcv_sentence.specs.Language.{language};
 ghost use Rattle.dcv_sentence.specs.Faults.{earlier_of};
 
 use crate::faults::ReadFault;
-use crate::language::{FILE, file_rules, formula_rules, prop_rules};
-use dcv_grammar::grammar::ContextFree;
+use crate::language::language;
 use dcv_grammar::reader::first_fault;
 use dcv_tokens::{Token, Tokens};
 use std::alloc::{AllocError, Global};
@@ -52,12 +51,7 @@ fn large_number(tokens: &[Token]) -> Option<u32>
 fn misplaced(alloc: Global, tokens: &[Token]) -> Result<Option<usize>, AllocError>
     ensures { IfOk result (IsVerdict language (map (λ token. class_of token.bytes.now) tokens.now)) }
 {
-    let tables = [file_rules(), formula_rules(), prop_rules()];
-    let grammar = ContextFree {
-        start: FILE,
-        tables: &tables,
-    };
-    first_fault(alloc, &grammar, tokens)
+    first_fault(alloc, language(), tokens)
 }
 
 // The left fault, unless the right one is at a lesser offset.

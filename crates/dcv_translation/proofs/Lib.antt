@@ -1,4 +1,3 @@
 pub mod Running
-pub mod Within
+pub mod Passed
 pub mod Reversed
-pub mod Rows

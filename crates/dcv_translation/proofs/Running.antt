@@ -18,10 +18,9 @@ use Rattle.dcv_grammar.proofs.Derivations.{rule_at, body_in, body_picked, reache
 use Rattle.dcv_grammar.proofs.Steps.{IsStackFor, stack_weight, in_table, weight_less, stack_step, follows_class, no_more_viable, sentence_at_end}
 use Rattle.dcv_grammar.proofs.TreeLaws.{leaves_join, trees_join, derives_leaves}
 use Rattle.dcv_lexer.specs.Cuts.{Token}
-use Rattle.dcv_observer.specs.Items.{token_class}
 use Rattle.dcv_translation.specs.declared.machine.Step.{Step}
 use Rattle.dcv_translation.specs.declared.machine.Step.TheVariants.{Class, Rule, Close}
-use Rattle.dcv_observer.specs.Scheme.{Scheme, parts_of_token, parts_of}
+use Rattle.dcv_translation.specs.Scheme.{Scheme, parts_of_token, parts_of}
 use Rattle.dcv_translation.specs.UnderWay.{step_of, symbols_of, Runs, IsUnderWay, Fits, with_class, Advances, Takes}
 
 -- ---- the body that is picked
@@ -79,7 +78,7 @@ opened_is_less grammar p number first steps rule next at =
 
 module _ {Part : Type 0} (scheme : Scheme Part) where
   abbrev class_of : Token → ℕ
-  class_of = token_class scheme.lexicon
+  class_of = scheme.class
 
   -- what a token of a class stands for, where a test tells whether it stands for anything
   pub parts_where : (class : ℕ) (token : Token) (test truth : Bool) → test ≡ scheme.has_part class → test ≡ truth
@@ -309,7 +308,7 @@ pub record Keeps {Part : Type 0} (scheme : Scheme Part) (next : Option ℕ) (beg
     (parts : List Part) : Type 0 where
   pub stack : IsStackFor scheme.grammar next (symbols_of begun) (symbols_of steps)
   pub fits : Fits scheme steps parts
-  pub goes : (left : List Token) (all : List Part) → slice_get (map (token_class scheme.lexicon) left) 0 ≡ next
+  pub goes : (left : List Token) (all : List Part) → slice_get (map (scheme.class) left) 0 ≡ next
       → IsUnderWay scheme begun begun_parts left all → IsUnderWay scheme steps parts left all
 
 module _ {Part : Type 0} (scheme : Scheme Part) (next : Option ℕ) (begun : List Step) (begun_parts : List Part) where
@@ -348,7 +347,7 @@ module _ {Part : Type 0} (scheme : Scheme Part) (next : Option ℕ) (begun : Lis
 -- ---- one token, and the end
 
 module _ {Part : Type 0} (scheme : Scheme Part) (old new : List Step) (old_parts parts : List Part) (wanted : Option ℕ) where
-  pub takes : (token : Token) (class : ℕ) → class ≡ token_class scheme.lexicon token → Advances scheme (Some class) old old_parts wanted new parts
+  pub takes : (token : Token) (class : ℕ) → class ≡ scheme.class token → Advances scheme (Some class) old old_parts wanted new parts
       → wanted ≡ Some class → (new_parts : List Part) → new_parts ≡ parts ++ parts_of_token scheme class token → Takes scheme token true old old_parts new new_parts
   takes token class is advances same new_parts made =
       let g = scheme.grammar in
@@ -362,7 +361,7 @@ module _ {Part : Type 0} (scheme : Scheme Part) (old new : List Step) (old_parts
             (subst (λ w. IsUnderWay scheme (with_class w new) parts (token ∷ left) all) same (advances.goes (token ∷ left) all (ap Some (sym is)) under)));
       }
 
-  pub sticks : (token : Token) (class : ℕ) → class ≡ token_class scheme.lexicon token → Advances scheme (Some class) old old_parts wanted new parts
+  pub sticks : (token : Token) (class : ℕ) → class ≡ scheme.class token → Advances scheme (Some class) old old_parts wanted new parts
       → (wanted ≡ Some class → ⊥) → (new_parts : List Part) → Takes scheme token false old old_parts new new_parts
   sticks token class is advances other new_parts = record {
     none = λ passed f. subst (λ k. ¬ IsViable scheme.grammar (passed ++ k ∷ [])) is

@@ -12,10 +12,9 @@ use Rattle.dcv_grammar.specs.Grammar.{IsBody, IsReached, IsViable}
 use Rattle.dcv_grammar.specs.Machine.{Follows, Wants}
 use Rattle.dcv_grammar.specs.Trees.{Nodes, done, leaf, node, leaves, AreTrees}
 use Rattle.dcv_lexer.specs.Cuts.{Token}
-use Rattle.dcv_observer.specs.Items.{token_class}
 use Rattle.dcv_translation.specs.declared.machine.Step.{Step}
 use Rattle.dcv_translation.specs.declared.machine.Step.TheVariants.{Class, Rule, Close}
-use Rattle.dcv_observer.specs.Scheme.{Scheme, parts_of_token, parts_of, IsOfBody}
+use Rattle.dcv_translation.specs.Scheme.{Scheme, parts_of_token, parts_of, IsOfBody}
 
 abbrev pub step_of : Symbol → Step
 step_of (ClassSymbol class) = Class class
@@ -30,10 +29,10 @@ symbols_of (Close rule first ∷ steps) = symbols_of steps
 abbrev pub Runs : {Part : Type 0} → Scheme Part → List Step → Nodes Token → List Part → List Part → Type 0
 Runs scheme [] done parts all = parts ≡ all
 Runs scheme (Class class ∷ steps) (leaf token next) parts all =
-    (token_class scheme.lexicon token ≡ class) × Runs scheme steps next (parts ++ parts_of_token scheme class token) all
+    (scheme.class token ≡ class) × Runs scheme steps next (parts ++ parts_of_token scheme class token) all
 Runs scheme (Rule number ∷ steps) (node rule inner next) parts all =
     (rule ≡ number)
-    × ((body : List Symbol) × IsBody scheme.grammar number body × AreTrees scheme.grammar (token_class scheme.lexicon) body inner)
+    × ((body : List Symbol) × IsBody scheme.grammar number body × AreTrees scheme.grammar (scheme.class) body inner)
     × Runs scheme steps next (parts ++ scheme.action rule (parts_of scheme inner) ∷ []) all
 -- the parts from the first one on are those of a body that ends here
 Runs scheme (Close rule first ∷ steps) trees parts all =
@@ -53,9 +52,9 @@ pub record IsUnderWay {Part : Type 0} (scheme : Scheme Part) (steps : List Step)
 abbrev pub Fits : {Part : Type 0} → Scheme Part → List Step → List Part → Type 0
 Fits scheme [] parts = Unit {0}
 Fits scheme (Class class ∷ steps) parts =
-    (token : Token) → token_class scheme.lexicon token ≡ class → Fits scheme steps (parts ++ parts_of_token scheme class token)
+    (token : Token) → scheme.class token ≡ class → Fits scheme steps (parts ++ parts_of_token scheme class token)
 Fits scheme (Rule number ∷ steps) parts =
-    (body : List Symbol) (trees : Nodes Token) → IsBody scheme.grammar number body → AreTrees scheme.grammar (token_class scheme.lexicon) body trees
+    (body : List Symbol) (trees : Nodes Token) → IsBody scheme.grammar number body → AreTrees scheme.grammar (scheme.class) body trees
     → Fits scheme steps (parts ++ scheme.action number (parts_of scheme trees) ∷ [])
 Fits scheme (Close rule first ∷ steps) parts =
     (first ≤ length parts) × IsOfBody scheme rule (drop first parts)
@@ -78,19 +77,19 @@ pub record Advances {Part : Type 0} (scheme : Scheme Part) (next : Option ℕ) (
     (parts : List Part) : Type 0 where
   pub wants : Wants scheme.grammar next (symbols_of old) wanted (symbols_of new)
   pub fits : Fits scheme (with_class wanted new) parts
-  pub goes : (left : List Token) (all : List Part) → slice_get (map (token_class scheme.lexicon) left) 0 ≡ next
+  pub goes : (left : List Token) (all : List Part) → slice_get (map (scheme.class) left) 0 ≡ next
       → IsUnderWay scheme old old_parts left all → IsUnderWay scheme (with_class wanted new) parts left all
 
 -- the token was taken
 pub record IsPast {Part : Type 0} (scheme : Scheme Part) (token : Token) (old : List Step) (old_parts : List Part) (new : List Step) (parts : List Part) : Type 0 where
   pub follows : (done : List ℕ) → Follows scheme.grammar done (symbols_of old)
-      → Follows scheme.grammar (done ++ token_class scheme.lexicon token ∷ []) (symbols_of new)
+      → Follows scheme.grammar (done ++ scheme.class token ∷ []) (symbols_of new)
   pub fits : Fits scheme new parts
   pub goes : (left : List Token) (all : List Part) → IsUnderWay scheme old old_parts (token ∷ left) all → IsUnderWay scheme new parts left all
 
 -- no sentence begins with what was taken before and the token
 pub record IsStuck {Part : Type 0} (scheme : Scheme Part) (token : Token) (old : List Step) : Type 0 where
-  pub none : (done : List ℕ) → Follows scheme.grammar done (symbols_of old) → ¬ IsViable scheme.grammar (done ++ token_class scheme.lexicon token ∷ [])
+  pub none : (done : List ℕ) → Follows scheme.grammar done (symbols_of old) → ¬ IsViable scheme.grammar (done ++ scheme.class token ∷ [])
 
 abbrev pub Takes : {Part : Type 0} → Scheme Part → Token → Bool → List Step → List Part → List Step → List Part → Type 0
 Takes scheme token true old old_parts new parts = IsPast scheme token old old_parts new parts

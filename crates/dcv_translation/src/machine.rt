@@ -1,20 +1,16 @@
 // The machine: a reader's stack that also has the ends of the bodies that are open, and the parts that were made.
-ghost use Rattle.std.specs.Prelude.{◌≡◌, ◌≢◌, ◌^◌, ◌<◌, ◌≤◌, ◌++◌, ◌∷◌, [], List, ℕ, Some, None, length, map, take, drop, reverse, slice_get, IfOk, IfErr, IfSome, OnOk, option_map};
+ghost use Rattle.std.specs.Prelude.{◌≡◌, ◌<◌, ◌≤◌, ◌++◌, ◌∷◌, [], List, ℕ, Some, length, map, take, drop, reverse, slice_get, IfOk, IfSome, OnOk, option_map};
 ghost use Rattle.dcv_grammar.specs.Grammar.{grammar_of, Production, IsSentence};
 ghost use Rattle.dcv_grammar.specs.Machine.{Follows};
 ghost use Rattle.dcv_grammar.specs.Picked.{body_for};
 ghost use Rattle.dcv_grammar.specs.Predictive.{IsPredictive};
-ghost use Rattle.dcv_observer.specs.Items.{IsSyntaxFault, token_class};
-ghost use Rattle.dcv_observer.specs.Left.{seen};
-ghost use Rattle.dcv_observer.specs.declared.fault.ObsFault.TheVariants.{Syntax, Memory};
-ghost use Rattle.dcv_observer.specs.Scheme.{parts_of_token, IsOfBody, StandsFor};
+ghost use Rattle.dcv_translation.specs.Scheme.{parts_of_token, IsOfBody};
 ghost use Rattle.dcv_translation.specs.UnderWay.{step_of, symbols_of, IsUnderWay, IsReady, Advances, Takes};
 ghost use Rattle.dcv_translation.specs.declared.machine.Step.TheVariants.{Rule as RuleStep, Close as CloseStep};
 
 use crate::body::Body;
 use crate::translation::Translation;
 use dcv_grammar::grammar::{ContextFree, Symbol};
-use dcv_observer::{Item, Items, ObsFault};
 use std::alloc::{AllocError, Global};
 
 // What is still to be done.
@@ -28,9 +24,10 @@ pub(crate) enum Step {
     Close { rule: u8, first: usize },
 }
 
+/// It takes the tokens of a text one after another, and keeps what is still to be done, and what was made.
 // The last step is the next, and the last part was made last.
 #[derive(Drop)]
-pub(crate) struct Machine<'a, 't, T: Translation<'a>> {
+pub struct Machine<'a, 't, T: Translation<'a>> {
     // the actions
     translation: &'t T,
     // what is read by
@@ -43,36 +40,9 @@ pub(crate) struct Machine<'a, 't, T: Translation<'a>> {
     body: Body<T::Part>,
 }
 
-/// What a text stands for: the part of its one derivation tree. Where it is no sentence, the fault is where its syntax is at fault. It goes through the text
-/// once, up to the fault.
-pub fn translate<'a, T: Translation<'a>>(
-    alloc: Global,
-    translation: &T,
-    text: &'a [u8],
-) -> Result<T::Part, ObsFault>
-    requires { length text.now < 2 ^ 32 }
-    ensures part { IfOk result (λ part. StandsFor T.scheme text.now (T.meaning part)) }
-    ensures fault { IfErr result (λ fault. fault ≢ Memory → (at : ℕ) × (fault ≡ Syntax at)
-        × IsSyntaxFault T.scheme.lexicon T.scheme.grammar text.now at) }
-{
-    let mut machine = Machine::new(alloc, translation)?;
-    let mut items = Items::new(translation.lexicon(), text);
-    while let Some(item) = items.next() {
-        if !machine.take(item)? {
-            return Err(ObsFault::Syntax { at: item.start });
-        }
-    }
-    if let Some(part) = machine.finish()? {
-        return Ok(part);
-    }
-    Err(ObsFault::Syntax {
-        at: text.len() as u32,
-    })
-}
-
 impl<'a, 't, T: Translation<'a>> Machine<'a, 't, T> {
-    // The start is to come.
-    fn new(alloc: Global, translation: &'t T) -> Result<Self, AllocError>
+    /// The start is to come.
+    pub fn new(alloc: Global, translation: &'t T) -> Result<Self, AllocError>
         ensures grammar { IfOk result (λ machine. grammar_of machine.grammar ≡ T.scheme.grammar) }
         ensures predictive { OnOk result (IsPredictive T.scheme.grammar) }
         ensures steps { IfOk result (λ machine. machine.steps.items ≡ RuleStep T.scheme.grammar.start ∷ []) }
@@ -90,41 +60,41 @@ impl<'a, 't, T: Translation<'a>> Machine<'a, 't, T> {
         })
     }
 
-    // Takes the next token, and tells whether a sentence may go on with it.
-    fn take(&mut self, item: Item<'a>) -> Result<bool, AllocError>
+    /// Takes the next token, and returns whether a sentence may go on with it.
+    pub fn take(&mut self, class: u8, token: T::Token) -> Result<bool, AllocError>
         requires grammar { grammar_of self.old.grammar ≡ T.scheme.grammar }
         requires predictive { IsPredictive T.scheme.grammar }
-        requires class { item.class ≡ token_class T.scheme.lexicon (seen item) }
+        requires class { class ≡ T.scheme.class (T.seen token) }
         requires ready { IsReady T.scheme (reverse self.old.steps.items) (map T.meaning self.old.parts.items) }
         ensures grammar { self.new.grammar ≡ self.old.grammar }
-        ensures taken { IfOk result (λ taken. Takes T.scheme (seen item.entry) taken (reverse self.old.steps.items) (map T.meaning self.old.parts.items)
+        ensures taken { IfOk result (λ taken. Takes T.scheme (T.seen token) taken (reverse self.old.steps.items) (map T.meaning self.old.parts.items)
             (reverse self.new.steps.items) (map T.meaning self.new.parts.items)) }
     {
-        let wanted = self.advance(Some(item.class))?;
-        if wanted != Some(item.class) {
+        let wanted = self.advance(Some(class))?;
+        if wanted != Some(class) {
             return Ok(false);
         }
-        self.add(item)?;
+        self.add(class, token)?;
         Ok(true)
     }
 
     // Adds what a token stands for, if it stands for anything.
-    fn add(&mut self, item: Item<'a>) -> Result<(), AllocError>
+    fn add(&mut self, class: u8, token: T::Token) -> Result<(), AllocError>
         ensures grammar { self.new.grammar ≡ self.old.grammar }
         ensures steps { self.new.steps.items ≡ self.old.steps.items }
         ensures parts { OnOk result (map T.meaning self.new.parts.items
-            ≡ map T.meaning self.old.parts.items ++ parts_of_token T.scheme item.entry.class (seen item.entry)) }
+            ≡ map T.meaning self.old.parts.items ++ parts_of_token T.scheme class (T.seen token)) }
     {
-        if !self.translation.has_part(item.class) {
+        if !self.translation.has_part(class) {
             return Ok(());
         }
         self.parts.reserve(1)?;
-        self.parts.push_reserved(self.translation.token(item));
+        self.parts.push_reserved(self.translation.token(token));
         Ok(())
     }
 
-    // The part of the whole after the last token, where it ends a sentence.
-    fn finish(mut self) -> Result<Option<T::Part>, AllocError>
+    /// The part of the whole after the last token, where it ends a sentence.
+    pub fn finish(mut self) -> Result<Option<T::Part>, AllocError>
         requires grammar { grammar_of self.grammar ≡ T.scheme.grammar }
         requires predictive { IsPredictive T.scheme.grammar }
         requires ready { IsReady T.scheme (reverse self.steps.items) (map T.meaning self.parts.items) }

@@ -1,21 +1,21 @@
 // What each rule of a grammar stands for.
-ghost use Rattle.std.specs.Prelude.{◌≡◌, map, IsTrue, IfOk};
+ghost use Rattle.std.specs.Prelude.{◌≡◌, map, IfOk};
 ghost use Rattle.dcv_grammar.specs.Grammar.{grammar_of};
 ghost use Rattle.dcv_grammar.specs.Predictive.{IsPredictive};
-ghost use Rattle.dcv_lexer.specs.Lexicon.{lexicon_of, is_orderly};
-ghost use Rattle.dcv_observer.specs.Left.{seen};
-ghost use Rattle.dcv_observer.specs.Scheme.{Scheme, IsOfBody};
+ghost use Rattle.dcv_lexer.specs.Cuts.{Token};
+ghost use Rattle.dcv_translation.specs.Scheme.{Scheme, IsOfBody};
 
 use crate::body::Body;
 use dcv_grammar::grammar::ContextFree;
-use dcv_lexer::Lexicon;
-use dcv_observer::Item;
 use std::alloc::AllocError;
 
 /// A language, and what its derivation trees stand for: `scheme` has what its tokens stand for, and the action of each rule.
 pub trait Translation<'a> {
     /// What a symbol stands for, in code.
     type Part: Drop;
+
+    /// A token with its place, in code.
+    type Token: Drop;
 
     /// What a part is to definitions.
     ghost Meaning: { Type 0 };
@@ -26,10 +26,8 @@ pub trait Translation<'a> {
     /// The same part, as the definitions have it.
     ghost meaning: { Self.Part → Meaning };
 
-    /// What the language is written with.
-    fn lexicon(&self) -> &'a Lexicon<'a>
-        ensures lexicon { lexicon_of result.now ≡ scheme.lexicon }
-        ensures orderly { IsTrue (is_orderly scheme.lexicon) };
+    /// The same token, as the definitions have it.
+    ghost seen: { Self.Token → Token };
 
     /// The grammar of the language.
     fn grammar(&self) -> &'a ContextFree<'a>
@@ -41,8 +39,8 @@ pub trait Translation<'a> {
         ensures { result ≡ scheme.has_part class };
 
     /// What a token of such a class stands for.
-    fn token(&self, item: Item<'a>) -> Self::Part
-        ensures { meaning result ≡ scheme.of_token (seen item.entry) };
+    fn token(&self, token: Self::Token) -> Self::Part
+        ensures { meaning result ≡ scheme.of_token (seen token) };
 
     /// What a rule stands for, by the parts of one of its bodies.
     fn rule(&self, rule: u8, body: &mut Body<Self::Part>) -> Result<Self::Part, AllocError>

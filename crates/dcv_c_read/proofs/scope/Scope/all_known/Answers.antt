@@ -1,7 +1,7 @@
 use Rattle.std.proofs.Common.{◌∙◌, ap, List}
 use Rattle.std.specs.List.{list_all}
 use Rattle.dcv_observer.specs.Naming.{is_among}
-use Rattle.dcv_translation.proofs.Rows.{all_rows}
+use Rattle.dcv_observer.proofs.Rows.{all_rows}
 use Rattle.dcv_c_read.specs.declared.scope.Declaration.{Declaration}
 use Rattle.dcv_c_read.specs.Scope.{Frame, seen_row, IsRow}
 use Rattle.dcv_c_read.proofs.scope.Scope.all_known.Goals as goal

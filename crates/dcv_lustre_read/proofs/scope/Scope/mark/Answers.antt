@@ -1,6 +1,6 @@
 use Rattle.std.proofs.Common.{map, ap, arith}
 use Rattle.std.proofs.lemmas.List.{length-map}
-use Rattle.dcv_translation.proofs.Rows.{set_row, none_changed}
+use Rattle.dcv_observer.proofs.Rows.{set_row, none_changed}
 use Rattle.dcv_lustre_read.specs.declared.scope.Declaration.{Declaration}
 use Rattle.dcv_lustre_read.specs.Scope.{seen_row, as_known}
 use Rattle.dcv_lustre_read.proofs.scope.Scope.mark.Goals as goal

@@ -1,6 +1,6 @@
 use Rattle.std.proofs.Common.{◌≡◌, ◌++◌, ◌∷◌, [], map, take, drop, refl, sym, ap, ◌∙◌, subst}
 use Rattle.std.proofs.lemmas.List.{map-append, drop-map, take-map}
-use Rattle.dcv_observer.specs.Scheme.{IsOfBody}
+use Rattle.dcv_translation.specs.Scheme.{IsOfBody}
 use Rattle.dcv_translation.proofs.machine.Machine.close.Goals as goal
 
 pub rule-requires : goal.rule-requires

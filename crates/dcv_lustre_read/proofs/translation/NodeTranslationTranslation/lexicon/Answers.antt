@@ -1,8 +1,0 @@
-use Rattle.std.proofs.Common.{refl}
-use Rattle.dcv_lexer.specs.Lexicon.{is_orderly}
-use Rattle.dcv_lustre.specs.Classes.{lexicon}
-use Rattle.dcv_lustre_read.proofs.translation.NodeTranslationTranslation.lexicon.Goals as goal
-
-pub returns-clause-orderly : goal.returns-clause-orderly
-unfolding lexicon is_orderly
-returns-clause-orderly c = refl
