@@ -1,5 +1,5 @@
 -- The machines of forms accept the forms' words.
-use Rattle.std.proofs.Common.{ℕ, Bool, ◌∙◌}
+use Rattle.std.proofs.Common.{◌≡◌, ℕ, Bool, refl, ◌∙◌}
 use Rattle.dcv_syntax.specs.declared.formulas.Relation.{Relation}
 use Rattle.dcv_syntax.specs.declared.formulas.Relation.TheVariants.{Equal, Less, AtMost, Greater, AtLeast}
 use Rattle.dcv_logic.specs.Satisfaction.{compares}
@@ -13,9 +13,9 @@ use Rattle.dcv_shifts.specs.Laws.{BackMachineAccepts, ForeMachineAccepts}
 use Rattle.dcv_syntax.specs.declared.formulas.Bracket.TheVariants.{Point, Run, Every, Unit as TwoInstants}
 use Rattle.dcv_syntax.specs.declared.formulas.Count.TheVariants.{Scount, Sdur}
 use Rattle.dcv_syntax.specs.declared.propositions.Direction.TheVariants.{Prior, Next}
-use Rattle.dcv_core.specs.Core.{TruthSlot, BasicConstant, BasicBracketed, BasicSlen, BasicCounted, BasicTrack}
+use Rattle.dcv_core.specs.Core.{TruthSlot, PlainBasic, BasicConstant, BasicBracketed, BasicSlen, BasicCounted, BasicTrack}
 use Rattle.dcv_core.specs.Holds.{truth_holds}
-use Rattle.dcv_atoms.specs.AtomRows.{kept_constant, constant_found, kept_point, point_found, kept_run, run_found, kept_every, every_found}
+use Rattle.dcv_atoms.specs.AtomRows.{atom_machine, kept_constant, constant_found, kept_point, point_found, kept_run, run_found, kept_every, every_found}
 use Rattle.dcv_atoms.specs.AtomRows.{kept_unit, unit_found, kept_count, count_found, kept_duration, duration_found}
 use Rattle.dcv_atoms.specs.AtomRows.{kept_back, back_found, kept_fore, fore_found}
 use Rattle.dcv_atoms.specs.Laws.{MachineAcceptsForm}
@@ -78,3 +78,16 @@ module _ (accept : MachinesAccept) (settle : RelationsSettle) where
   accepts_form slots (BasicTrack Next p slot) word some =
       embedded_accepts kept_fore fore_found fore_again (fore_machine slots (truth_holds p) (truth_holds (TruthSlot slot))) word
       ∙ accept.fore slots (truth_holds p) (truth_holds (TruthSlot slot)) word some
+
+-- each is over the slots of its step
+pub atom_slots : (slots : ℕ) (basic : PlainBasic) → (atom_machine slots basic).slots ≡ slots
+atom_slots slots (BasicConstant truth) = refl
+atom_slots slots (BasicBracketed Point p) = refl
+atom_slots slots (BasicBracketed Run p) = refl
+atom_slots slots (BasicBracketed Every p) = refl
+atom_slots slots (BasicBracketed TwoInstants p) = refl
+atom_slots slots (BasicSlen relation n) = refl
+atom_slots slots (BasicCounted Scount p relation n) = refl
+atom_slots slots (BasicCounted Sdur p relation n) = refl
+atom_slots slots (BasicTrack Prior p slot) = refl
+atom_slots slots (BasicTrack Next p slot) = refl

@@ -10,14 +10,11 @@ use Rattle.dcv_language.specs.Canonical.{IsCanonical}
 use Rattle.dcv_language.specs.Language.{HaveSameBehaviours}
 use Rattle.dcv_language.specs.Table.{Table}
 use Rattle.dcv_language.proofs.Canonicals.{canonical_for_same_behaviours}
-use Rattle.dcv_syntax.specs.declared.propositions.Direction.TheVariants.{Prior, Next}
-use Rattle.dcv_syntax.specs.declared.formulas.Bracket.TheVariants.{Point, Run, Every, Unit as TwoInstants}
-use Rattle.dcv_syntax.specs.declared.formulas.Count.TheVariants.{Scount, Sdur}
-use Rattle.dcv_core.specs.Core.{CoreTree, PlainBasic, BasicConstant, BasicBracketed, BasicSlen, BasicCounted, BasicTrack}
+use Rattle.dcv_core.specs.Core.{CoreTree}
 use Rattle.dcv_core.specs.Holds.{words_of}
 use Rattle.dcv_core.specs.Steps.{PlainOp, OpAtom, OpNot, OpJoined, OpChop, OpStar, OpExists, PlainStep, steps_before, steps_of}
 use Rattle.dcv_core.proofs.StepList.{steps_are_operations, some_same}
-use Rattle.dcv_atoms.specs.AtomRows.{atom_machine}
+use Rattle.dcv_atoms.proofs.Accepting.{atom_slots}
 use Rattle.dcv_atoms.specs.Laws.{MachineAcceptsStep as MachineAcceptsAtomStep}
 use Rattle.dcv_explore.specs.declared.explorer.Limits.{Limits}
 use Rattle.dcv_explore.specs.Budget.{IsWithin, Kind, TooManyStates, TooManyNodes, Exceeds}
@@ -83,19 +80,7 @@ waiting_grown steps limits tables more (one ∷ others) n waits =
 -- ---- the slots of a row
 
 pub row_slots : (op : PlainOp) (slots : ℕ) (tables : List Table) → (row_of op slots tables).machine.slots ≡ slots
-row_slots (OpAtom basic) slots tables = own_slots basic
-  where
-    own_slots : (form : PlainBasic) → (atom_machine slots form).slots ≡ slots
-    own_slots (BasicConstant truth) = refl
-    own_slots (BasicBracketed Point p) = refl
-    own_slots (BasicBracketed Run p) = refl
-    own_slots (BasicBracketed Every p) = refl
-    own_slots (BasicBracketed TwoInstants p) = refl
-    own_slots (BasicSlen relation m) = refl
-    own_slots (BasicCounted Scount p relation m) = refl
-    own_slots (BasicCounted Sdur p relation m) = refl
-    own_slots (BasicTrack Prior p slot) = refl
-    own_slots (BasicTrack Next p slot) = refl
+row_slots (OpAtom basic) slots tables = atom_slots slots basic
 row_slots (OpNot d) slots tables = refl
 row_slots (OpJoined connective c d) slots tables = refl
 row_slots (OpChop c d) slots tables = refl

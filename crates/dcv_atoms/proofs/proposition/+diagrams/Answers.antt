@@ -23,41 +23,34 @@ part-returns-in_err-root-in-Not-clause-exceeds t c limit e =
     let same : TruthNot part ≡ plain_truth c.args.truth.now = ap (λ (truth : Truth). TruthNot (plain_truth truth)) c.deref.ensures ∙ sym (ap plain_truth c.in-Not.is) in
     subst (λ whole. Exceeds c.args.arena.now (parts whole) limit) same (operand_exceeds c.args.arena.now (parts part) (TruthNot part) limit refl more)
 
+module _ (t : ℕ) (c : goal.part-After-opposite t) where
+  abbrev operand : PlainTruth
+  operand = plain_truth c.deref.result.now
+
+  same_not : TruthNot operand ≡ plain_truth c.args.truth.now
+  same_not = ap (λ (truth : Truth). TruthNot (plain_truth truth)) c.deref.ensures ∙ sym (ap plain_truth c.in-Not.is)
+
+  operand_means : Means c.part.new.arena c.in_ok-root-in-Not.root c.part.new.arena.slots (truth_holds operand)
+  operand_means =
+      not_means c.args.arena.now c.part.new.arena c.in_ok-root-in-Not.root operand (plain_truth c.args.truth.now) same_not c.in_ok-root-in-Not.ensures.means c.in_ok-root-in-Not.ensures.builds
+
 pub part-returns-in_ok-root-in-Not-clause-means : goal.part-returns-in_ok-root-in-Not-clause-means
 part-returns-in_ok-root-in-Not-clause-means t c =
-    let part = plain_truth c.deref.result.now in
-    let same : TruthNot part ≡ plain_truth c.args.truth.now = ap (λ (truth : Truth). TruthNot (plain_truth truth)) c.deref.ensures ∙ sym (ap plain_truth c.in-Not.is) in
-    let old = c.args.arena.now in
-    let middle = c.part.new.arena in
-    let root = c.in_ok-root-in-Not.root in
     let one = c.in_ok-root-in-Not.ensures in
-    let whole = plain_truth c.args.truth.now in
-    if_ok c.opposite.result (λ opposite means. not_is old middle root part whole same one.means one.builds c.opposite.new.arena opposite means)
-    (c.opposite.ensures.means (truth_holds part) (not_means old middle root part whole same one.means one.builds))
+    if_ok c.opposite.result (λ opposite means. not_is c.args.arena.now c.part.new.arena c.in_ok-root-in-Not.root (operand t c) (plain_truth c.args.truth.now) (same_not t c) one.means one.builds c.opposite.new.arena opposite means)
+    (c.opposite.ensures.means (truth_holds (operand t c)) (operand_means t c))
 
 pub part-returns-in_ok-root-in-Not-clause-builds : goal.part-returns-in_ok-root-in-Not-clause-builds
 part-returns-in_ok-root-in-Not-clause-builds t c =
-    let part = plain_truth c.deref.result.now in
-    let same : TruthNot part ≡ plain_truth c.args.truth.now = ap (λ (truth : Truth). TruthNot (plain_truth truth)) c.deref.ensures ∙ sym (ap plain_truth c.in-Not.is) in
-    let old = c.args.arena.now in
-    let middle = c.part.new.arena in
-    let root = c.in_ok-root-in-Not.root in
     let one = c.in_ok-root-in-Not.ensures in
-    let whole = plain_truth c.args.truth.now in
-    on_ok c.opposite.result (λ late. not_builds old middle root part whole same one.means one.builds c.opposite.new.arena late)
-    (c.opposite.ensures.builds part (not_means old middle root part whole same one.means one.builds))
+    on_ok c.opposite.result (λ late. not_builds c.args.arena.now c.part.new.arena c.in_ok-root-in-Not.root (operand t c) (plain_truth c.args.truth.now) (same_not t c) one.means one.builds c.opposite.new.arena late)
+    (c.opposite.ensures.builds (operand t c) (operand_means t c))
 
 pub part-returns-in_ok-root-in-Not-clause-exceeds : goal.part-returns-in_ok-root-in-Not-clause-exceeds
 part-returns-in_ok-root-in-Not-clause-exceeds t c limit e =
-    let part = plain_truth c.deref.result.now in
-    let same : TruthNot part ≡ plain_truth c.args.truth.now = ap (λ (truth : Truth). TruthNot (plain_truth truth)) c.deref.ensures ∙ sym (ap plain_truth c.in-Not.is) in
-    let old = c.args.arena.now in
-    let middle = c.part.new.arena in
-    let root = c.in_ok-root-in-Not.root in
     let one = c.in_ok-root-in-Not.ensures in
-    let whole = plain_truth c.args.truth.now in
-    not_exceeds old middle root part whole same one.means one.builds limit
-    (c.opposite.ensures.exceeds limit part e (not_means old middle root part whole same one.means one.builds))
+    not_exceeds c.args.arena.now c.part.new.arena c.in_ok-root-in-Not.root (operand t c) (plain_truth c.args.truth.now) (same_not t c) one.means one.builds limit
+    (c.opposite.ensures.exceeds limit (operand t c) e (operand_means t c))
 
 -- ---- a list
 
