@@ -274,3 +274,18 @@ syntax_fault text left at fault is =
 pub names_seen : (names : List (Bor (List ℕ))) → map parameter_name (words_in names) ≡ map (λ name. parameter_name name.now) names
 names_seen [] = refl
 names_seen (name ∷ names) = ap (λ rest. parameter_name name.now ∷ rest) (names_seen names)
+
+module _ (counts : CountsValue) (names : List (Bor (List ℕ))) (nodes : List TableNode) (states : List TableState) (read : IsRead counts (words_in names) nodes states) where
+  abbrev seen : Tables
+  seen = record { parameters = map (λ name. parameter_name name.now) names; nodes = nodes; states = states }
+
+  pub front_plain : IsPlainUnit seen
+  front_plain = subst (λ (parameters : List (List ℕ)). IsPlainUnit (record { parameters = parameters; nodes = nodes; states = states })) (names_seen names) (plain_read read)
+
+  pub front_spelled : (integer text arrays behind functions rest : List ℕ) → integer ≡ integer_of counts → text ≡ counts_text counts ++ arrays → arrays ≡ nodes_text integer nodes ++ behind
+      → behind ≡ states_text integer states ++ functions → functions ≡ step_text integer (nat_lt 0 counts.nodes) (words_in names) ++ rest → text ≡ text_of seen ++ rest
+  front_spelled integer text arrays behind functions rest is a b c d =
+      a ∙ ap (λ t. counts_text counts ++ t) (b ∙ ap (λ t. nodes_text integer nodes ++ t) (c ∙ ap (λ t. states_text integer states ++ t) d))
+      ∙ ap (λ (integer : List ℕ). counts_text counts ++ (nodes_text integer nodes ++ (states_text integer states ++ (step_text integer (nat_lt 0 counts.nodes) (words_in names) ++ rest)))) is
+      ∙ opened counts (words_in names) nodes states rest ∙ ap (λ t. t ++ rest) (text_read read)
+      ∙ ap (λ (parameters : List (List ℕ)). text_of (record { parameters = parameters; nodes = nodes; states = states }) ++ rest) (names_seen names)
