@@ -19,10 +19,10 @@ returns-clause-fault c =
           subst (λ (left : Bor (List ℕ)). IsFaultAt Form text left.now) (sym w.left-is)
           (more_is_fault _ text _ w.in-Ok.ensures.plain w.in-Ok.ensures.spelled
           (λ none.
-              let told : w.is_empty.result ≡ (length w.in-Ok.rest.now == 0) = w.is_empty.ensures in
-              let empty : w.is_empty.result ≡ true = told ∙ ap (λ (rest : List ℕ). length rest == 0) none in
-              let wrong : true ≡ false = sym empty ∙ w.if-is_empty.false in cc))
-      | in-Err-Syntax w ↦ subst (λ (left : Bor (List ℕ)). IsFaultAt Form text left.now) (sym w.left-is) 
+          let told : w.is_empty.result ≡ (length w.in-Ok.rest.now == 0) = w.is_empty.ensures in
+          let empty : w.is_empty.result ≡ true = told ∙ ap (λ (rest : List ℕ). length rest == 0) none in
+          let wrong : true ≡ false = sym empty ∙ w.if-is_empty.false in cc))
+      | in-Err-Syntax w ↦ subst (λ (left : Bor (List ℕ)). IsFaultAt Form text left.now) (sym w.left-is)
           (stuck_is_fault (subst (λ (stop : Stop). IsStuckBy Form text stop) w.in-Err-Syntax.field-0-is w.in-Err-Syntax.ensures.fault))
     ] in
     λ _. (at, refl, syntax_fault text left.now at fault refl)
