@@ -1,5 +1,5 @@
 // The reader of the form.
-ghost use Rattle.std.specs.Prelude.{◌≢◌, ◌≡◌, ◌<◌, ◌^◌, ◌++◌, ℕ, length, IfOk, IfErr};
+ghost use Rattle.std.specs.Prelude.{◌≢◌, ◌≡◌, ◌<◌, ◌≤◌, ◌^◌, ◌++◌, ℕ, length, IfOk, IfErr};
 ghost use Rattle.dcv_automaton_lines.specs.Stops.{IsStuckStop};
 ghost use Rattle.dcv_observer.specs.declared.fault.ObsFault.TheVariants.{Syntax, Memory};
 ghost use Rattle.dcv_c_tables.specs.Layout.{type_for, text_of};
@@ -14,9 +14,10 @@ use dcv_automaton_lines::Stop;
 use dcv_observer::ObsFault;
 use std::alloc::Global;
 
-// The type of so many places.
-fn integer(places: u32) -> &'static [u8]
-    ensures { result.now ≡ type_for places }
+/// The type of so many places.
+pub(crate) fn integer(places: u32) -> &'static [u8]
+    ensures is { result.now ≡ type_for places }
+    ensures short { length result.now ≤ 14 }
 {
     if places > 65_535 {
         b"unsigned long"
