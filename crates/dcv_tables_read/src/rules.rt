@@ -1,7 +1,7 @@
 // The numbers of a unit are judged in the order of the text, and then its parameters.
 ghost use Rattle.std.specs.Prelude.{◌≡◌, ◌+◌, ◌*◌, ◌^◌, ◌<◌, ◌≤◌, ◌++◌, ◌&&◌, nat_lt, nat_le, length, map, OnOk};
 ghost use Rattle.dcv_language.specs.Limits.{most_states, most_nodes};
-ghost use Rattle.dcv_c_tables.specs.Layout.{text_in, type_for, type_of, counts_line, opening, char_type, variable_head, high_head, low_head, row_head, node_arrays, state_arrays, text_of};
+ghost use Rattle.dcv_c_tables.specs.Layout.{text_in, type_of, counts_line, opening, char_type, variable_head, high_head, low_head, row_head, node_arrays, state_arrays, text_of};
 ghost use Rattle.dcv_tables_read.specs.Reading.{keeps_counts, keeps_variables, keeps_children, keeps_rows, entries, count_words, array_size, array_words, words_of, judged};
 ghost use Rattle.dcv_tables_read.specs.Seen.{seen_tables};
 ghost use Rattle.dcv_tables_read.specs.Judged.{IsJudged, IsJudgedWhole, judged_from, lines_of, variable_numbers, high_numbers, low_numbers, row_numbers, keeps_highs, keeps_lows, node_words, keeps_nodes};
