@@ -309,7 +309,7 @@ numbers_are (state ∷ states) (accept ∷ accepts) small same =
     let first : state.accepts ≡ nat_eq 1 accept = cc in
     let rest : map accepts_of states ≡ answers accepts = cc in
     λ i. (ap accept_number first ∙ answer_number accept (All-head (IsEntry Answer) accept accepts small)) i
-        ∷ numbers_are states accepts (All-tail (IsEntry Answer) accept accepts small) rest i
+    ∷ numbers_are states accepts (All-tail (IsEntry Answer) accept accepts small) rest i
 
 small_states : (states : List TableState) → All IsNumber (map row_of states) → All IsSmallState states
 small_states [] rows = All-nil IsSmallState
@@ -445,8 +445,10 @@ unique_states integer count x y a b x_is y_is spelled =
   where
     opened : (states : List TableState) (rest : List ℕ) → states_text integer states ++ rest ≡ rows_text integer (map row_of states) ++ (accepts_text (map number_of states) ++ rest)
     opened states rest = ap (λ t. t ++ rest) (states_are integer states) ∙ append_assoc (rows_text integer (map row_of states)) (accepts_text (map number_of states)) rest
+
     of_rows : (states : List TableState) → AreStates count states → AreEntries Number count (map row_of states)
     of_rows states is = record { many = map_length row_of states ∙ is.many; each = all_map row_of IsSmallState (λ state small. small.row) states is.each }
+
     of_numbers : (states : List TableState) → AreStates count states → AreEntries Answer count (map number_of states)
     of_numbers states is = record { many = map_length number_of states ∙ is.many; each = small_answers states }
 

@@ -97,6 +97,7 @@ name_end_stuck behind word rest left text ends word_is after whole stuck =
     first_of : (front left other : List ℕ) (b : ℕ) → IsAfterWord (front ++ b ∷ left) → IsAfterWord (front ++ b ∷ other)
     first_of [] left other b after = after
     first_of (c ∷ front) left other b after = after
+
     cut : (name back : List ℕ) (goes : List ℕ) → IsNameWord name → IsAfterWord goes → (name ++ behind) ++ back ≡ word ++ goes → behind ++ back ≡ goes
     cut name back [] name_is after same = absurd (never behind ends (same ∙ append_none word))
       where
@@ -104,6 +105,7 @@ name_end_stuck behind word rest left text ends word_is after whole stuck =
         never [] ends same = ends
         never (e ∷ behind) ends same = not_within is_word_byte word name (behind ++ back) e word_is.bytes ends (sym (append_assoc name (e ∷ behind) back) ∙ same)
     cut name back (b ∷ goes) name_is after same = (same_names name word behind back goes name_is.bytes word_is.bytes ends b after same).1
+
     none : (front left : List ℕ) → IsAfterWord (front ++ left) → IsNoFurther (Exactly behind) front left → IsNoFurther (NameSet behind) (word ++ front) left
     none front [] after stuck = λ t more is same.
         stuck behind more (record { is = refl })
@@ -146,7 +148,7 @@ unique_names count (x ∷ xs) (y ∷ ys) a b x_is y_is same =
     let sizes : suc (length xs) ≡ suc (length ys) = x_is.many ∙ sym y_is.many in
     let size : length ys ≡ length xs = omega arith in
     let here = sym (append_assoc (with_end (length xs) x) (names_text xs) a) ∙ same ∙ append_assoc (with_end (length ys) y) (names_text ys) b
-        ∙ ap (λ n. with_end n y ++ (names_text ys ++ b)) size in
+    ∙ ap (λ n. with_end n y ++ (names_text ys ++ b)) size in
     let first = unique_next (length xs) x y (names_text xs ++ a) (names_text ys ++ b) (All-head IsNameWord x xs x_is.each) (All-head IsNameWord y ys y_is.each) here in
     let rest = unique_names (length xs) xs ys a b (record { many = refl; each = All-tail IsNameWord x xs x_is.each })
     (record { many = size; each = All-tail IsNameWord y ys y_is.each })

@@ -46,9 +46,9 @@ unfolding text_of layout_of
 parts_are names nodes states =
     let integer = integer_of (counted names nodes states) in
     (λ i. counts_text (record { states = length states; nodes = length nodes; variables = sym (names_length names) i })
-        ++ (nodes_text integer nodes ++ (states_text integer states ++ step_text integer (sym (has_is nodes) i) names)))
+    ++ (nodes_text integer nodes ++ (states_text integer states ++ step_text integer (sym (has_is nodes) i) names)))
     ∙ ap (λ t. counts_text (record { states = length states; nodes = length nodes; variables = length (map parameter_name names) })
-        ++ (nodes_text integer nodes ++ (states_text integer states ++ (text_in (reset_lines integer) ++ t))))
+    ++ (nodes_text integer nodes ++ (states_text integer states ++ (text_in (reset_lines integer) ++ t))))
     (append_assoc (text_in (parameters_layout (map parameter_name names))) (codes ")\n{\n") (body_text integer (has_nodes nodes) names))
 
 -- ---- what was read is a unit
@@ -104,12 +104,14 @@ unit_from text is =
     let names = states.back_is in
     let read : IsRead is.item names.item nodes.item states.item =
     record { counts_are = is.valid_item; names_are = names.valid_item; nodes_are = nodes.valid_item; states_are = states.valid_item } in
-    let integer = integer_of is.item in
-    (unit_of names.item nodes.item states.item, record {
-      plain = plain_read read;
-      spelled = is.whole ∙ ap (λ t. counts_text is.item ++ t) (nodes.whole ∙ ap (λ t. nodes_text integer nodes.item ++ t)
-          (states.whole ∙ ap (λ t. states_text integer states.item ++ t) names.is)) ∙ text_read read;
-    })
+    let integer = integer_of is.item in (
+      unit_of names.item nodes.item states.item,
+      record {
+        plain = plain_read read;
+        spelled = is.whole ∙ ap (λ t. counts_text is.item ++ t) (nodes.whole ∙ ap (λ t. nodes_text integer nodes.item ++ t)
+            (states.whole ∙ ap (λ t. states_text integer states.item ++ t) names.is)) ∙ text_read read;
+      },
+    )
 
 unit_into : (text : List ℕ) → Form text → UnitSet text
 unit_into text (tables, form) =

@@ -26,10 +26,7 @@ fn integer(places: u32) -> &'static [u8]
 }
 
 // The unit at the front of a text, and the text after it.
-fn front<'a>(
-    alloc: Global,
-    text: &'a [u8],
-) -> Result<(TableUnit<'a>, &'a [u8]), Stop<'a>>
+fn front<'a>(alloc: Global, text: &'a [u8]) -> Result<(TableUnit<'a>, &'a [u8]), Stop<'a>>
     ensures plain { IfOk result (λ read. IsPlainUnit (seen_tables read.0)) }
     ensures spelled { IfOk result (λ read. text.now ≡ text_of (seen_tables read.0) ++ read.1.now) }
     ensures fault { IsStuckStop Form text.now result }
