@@ -1,7 +1,7 @@
 -- Where a text is stuck in an array, or in the arrays of the nodes or the states.
 use Rattle.std.proofs.Common.{◌≡◌, ℕ, zero, suc, ◌<◌, Bool, true, false, List, [], ◌∷◌, ◌++◌, length, map, refl, sym, ap, ◌∙◌, subst, arith}
 use Rattle.std.specs.Prelude.{codes, nat_eq}
-use Rattle.std.specs.List.{All, flat_map}
+use Rattle.std.specs.List.{All}
 use Rattle.std.proofs.lemmas.List.{append_assoc}
 use Rattle.std.proofs.lemmas.List.Elements.{All-nil, All-cons, All-head, All-tail}
 use Rattle.dcv_automaton_text.specs.Form.{IsNumber}
@@ -10,11 +10,11 @@ use Rattle.dcv_automaton_lines.proofs.Pieces.{append_none}
 use Rattle.dcv_automaton_lines.proofs.LineSets.{Some}
 use Rattle.dcv_observer.specs.Layouts.{Each}
 use Rattle.dcv_c_tables.specs.Unit.{TableNode, TableState, no_node, no_state}
-use Rattle.dcv_c_tables.specs.Layout.{text_in, number_line, opening, closing, char_type, variable_head, high_head, low_head, row_head, accept_head, accept_number, node_arrays, state_arrays}
+use Rattle.dcv_c_tables.specs.Layout.{text_in, number_line, opening, closing, char_type, variable_head, high_head, low_head, row_head, accept_head, accept_number}
 use Rattle.dcv_tables_read.specs.Form.{IsSmallNode, IsSmallState}
 use Rattle.dcv_tables_read.specs.declared.entries.Entry.{Entry}
 use Rattle.dcv_tables_read.specs.declared.entries.Entry.TheVariants.{Number, Answer}
-use Rattle.dcv_tables_read.specs.Parts.{Spellings, Then, IsUnique, IsEntry, AreEntries, LinesOf, lines_text, array_text, ArraySet, AreNodes, nodes_text, NodesSet, AreStates, states_text, StatesSet}
+use Rattle.dcv_tables_read.specs.Parts.{Then, IsUnique, IsEntry, AreEntries, LinesOf, lines_text, array_text, ArraySet, AreNodes, nodes_text, NodesSet, AreStates, states_text, StatesSet}
 use Rattle.dcv_tables_read.proofs.Chain.{same_behind, stuck_same, stuck_first, stuck_next, some_then, some_spelling, lead_first, lead_next, tail_first, tail_next, unique_lead, unique_tail}
 use Rattle.dcv_tables_read.proofs.LineLists.{unique_lines, lines_stuck, some_entry}
 
@@ -309,7 +309,7 @@ numbers_are (state ∷ states) (accept ∷ accepts) small same =
     let first : state.accepts ≡ nat_eq 1 accept = cc in
     let rest : map accepts_of states ≡ answers accepts = cc in
     λ i. (ap accept_number first ∙ answer_number accept (All-head (IsEntry Answer) accept accepts small)) i
-        ∷ numbers_are states accepts (All-tail (IsEntry Answer) accept accepts small) rest i
+    ∷ numbers_are states accepts (All-tail (IsEntry Answer) accept accepts small) rest i
 
 small_states : (states : List TableState) → All IsNumber (map row_of states) → All IsSmallState states
 small_states [] rows = All-nil IsSmallState
@@ -445,8 +445,10 @@ unique_states integer count x y a b x_is y_is spelled =
   where
     opened : (states : List TableState) (rest : List ℕ) → states_text integer states ++ rest ≡ rows_text integer (map row_of states) ++ (accepts_text (map number_of states) ++ rest)
     opened states rest = ap (λ t. t ++ rest) (states_are integer states) ∙ append_assoc (rows_text integer (map row_of states)) (accepts_text (map number_of states)) rest
+
     of_rows : (states : List TableState) → AreStates count states → AreEntries Number count (map row_of states)
     of_rows states is = record { many = map_length row_of states ∙ is.many; each = all_map row_of IsSmallState (λ state small. small.row) states is.each }
+
     of_numbers : (states : List TableState) → AreStates count states → AreEntries Answer count (map number_of states)
     of_numbers states is = record { many = map_length number_of states ∙ is.many; each = small_answers states }
 

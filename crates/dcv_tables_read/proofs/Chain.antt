@@ -2,8 +2,8 @@
 use Rattle.std.proofs.Common.{◌≡◌, ℕ, List, [], ◌∷◌, ◌++◌, Result, Ok, Err, refl, sym, ap, ◌∙◌, subst}
 use Rattle.std.specs.Result.{IsErrAnd}
 use Rattle.std.proofs.lemmas.List.{append_assoc}
-use Rattle.dcv_automaton_lines.specs.Pieces.{Exactly, Nothing, IsNoFurther, IsStuckIn, IsFaultAt}
-use Rattle.dcv_automaton_lines.specs.Stops.{IsStuckAt, IsStuckBy, IsStuckStop}
+use Rattle.dcv_automaton_lines.specs.Pieces.{Exactly, IsNoFurther, IsStuckIn}
+use Rattle.dcv_automaton_lines.specs.Stops.{IsStuckBy, IsStuckStop}
 use Rattle.dcv_automaton_lines.specs.declared.stop.Stuck.{Stuck}
 use Rattle.dcv_automaton_lines.specs.declared.stop.Stop.{Stop}
 use Rattle.dcv_automaton_lines.specs.declared.stop.Stop.TheVariants.{Syntax, Memory}

@@ -1,14 +1,14 @@
 -- What is judged of a unit is what its steps need, and the other way round.
-use Rattle.std.proofs.Common.{◌≡◌, ℕ, suc, ◌+◌, ◌<◌, ◌≤◌, Bool, true, false, ◌&&◌, ◌||◌, nat_lt, nat_le, List, [], ◌∷◌, ◌++◌, length, map, refl, sym, ap, ◌∙◌, arith}
+use Rattle.std.proofs.Common.{◌≡◌, ℕ, ◌+◌, ◌<◌, Bool, true, false, ◌&&◌, ◌||◌, nat_lt, nat_le, List, [], ◌∷◌, ◌++◌, length, map, refl, arith}
 use Rattle.std.specs.Prelude.{IsTrue}
-use Rattle.std.specs.List.{All, AllByRecursion, list_all}
+use Rattle.std.specs.List.{AllByRecursion, list_all}
 use Rattle.std.proofs.lemmas.Bool.{ltb-true, lt-ltb}
 use Rattle.std.proofs.lemmas.Bool.Decides.{nat_tests}
 use Rattle.std.proofs.lemmas.List.Elements.{All-from_recursion, recursion_from_All}
 use Rattle.dcv_language.specs.Limits.{most_variables, most_states, most_nodes}
 use Rattle.dcv_c_tables.specs.Unit.{TableNode, TableState, Tables}
-use Rattle.dcv_c_tables.specs.Rules.{IsPlacedNode, ArePlacedNodes, variable_at, ComesLater, IsOrderedNode, IsTables}
-use Rattle.dcv_tables_read.specs.Reading.{keeps_counts, keeps_variables, keeps_child, keeps_children, keeps_rows, keeps_parameters, judged, IsReadAs}
+use Rattle.dcv_c_tables.specs.Rules.{ArePlacedNodes, variable_at, ComesLater, IsOrderedNode, IsTables}
+use Rattle.dcv_tables_read.specs.Reading.{keeps_counts, keeps_variables, keeps_child, keeps_children, keeps_rows, keeps_parameters, judged}
 use Rattle.dcv_tables_read.specs.Laws.{ReadUnitsKeepTheRules}
 
 abbrev pub AllKept : List Bool → Type 0

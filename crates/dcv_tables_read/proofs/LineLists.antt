@@ -1,6 +1,6 @@
 -- Where a text is stuck in the lines of an array, and what is read of them.
-use Rattle.std.proofs.Common.{◌≡◌, ℕ, zero, suc, ◌+◌, ◌-◌, ◌^◌, ◌<◌, ◌≤◌, inl, inr, List, [], ◌∷◌, ◌++◌, length, refl, sym, ap, ◌∙◌, subst, arith}
-use Rattle.std.specs.Prelude.{codes, slice_index_or}
+use Rattle.std.proofs.Common.{◌≡◌, ℕ, zero, suc, ◌+◌, ◌-◌, ◌<◌, ◌≤◌, inl, inr, List, [], ◌∷◌, ◌++◌, length, refl, sym, ap, ◌∙◌, subst, arith}
+use Rattle.std.specs.Prelude.{codes}
 use Rattle.std.specs.Fmt.{decimal}
 use Rattle.std.specs.List.{All}
 use Rattle.std.proofs.lemmas.Fmt.{decimal_digit}
@@ -8,16 +8,15 @@ use Rattle.std.proofs.lemmas.Bool.{cases_lt}
 use Rattle.std.proofs.lemmas.List.{append_assoc, length-append}
 use Rattle.std.proofs.lemmas.List.Elements.{All-nil, All-cons, All-push, All-head, All-tail}
 use Rattle.dcv_automaton_text.specs.Form.{IsNumber}
-use Rattle.dcv_automaton_lines.specs.Pieces.{Exactly, Nothing, Either, IsStuckIn}
-use Rattle.dcv_automaton_lines.specs.Parts.{NumberWord}
+use Rattle.dcv_automaton_lines.specs.Pieces.{Exactly, Either, IsStuckIn}
 use Rattle.dcv_automaton_lines.proofs.Pieces.{append_none, stuck_in_first, stuck_in_second}
 use Rattle.dcv_automaton_lines.proofs.WordSets.{exactly_away}
 use Rattle.dcv_automaton_lines.proofs.LineSets.{Some}
 use Rattle.dcv_tables_read.specs.declared.entries.Entry.{Entry}
 use Rattle.dcv_tables_read.specs.declared.entries.Entry.TheVariants.{Number, Answer}
-use Rattle.dcv_tables_read.specs.Parts.{Spellings, Then, IsUnique, ended, IsEntry, EntrySet, line_text, LineSet, LinesOf, AreEntries, lines_text}
-use Rattle.dcv_tables_read.proofs.Chain.{same_behind, stuck_same, stuck_first, stuck_next, some_spelling, lead_first, lead_next, tail_first, tail_next, stuck_spelled, unique_lead, unique_tail, unique_same}
-use Rattle.dcv_tables_read.proofs.Numbers.{counted_stuck, unique_ended}
+use Rattle.dcv_tables_read.specs.Parts.{Spellings, IsUnique, ended, IsEntry, EntrySet, line_text, LineSet, LinesOf, AreEntries, lines_text}
+use Rattle.dcv_tables_read.proofs.Chain.{same_behind, stuck_same, stuck_first, stuck_next, lead_first, lead_next, tail_first, tail_next, stuck_spelled, unique_lead, unique_tail, unique_same}
+use Rattle.dcv_tables_read.proofs.Numbers.{unique_ended}
 
 -- ---- one number
 

@@ -1,18 +1,18 @@
 -- Where a text is stuck in a name, or in the names of the parameters.
-use Rattle.std.proofs.Common.{◌≡◌, ℕ, zero, suc, ◌+◌, ◌-◌, ◌<◌, ◌≤◌, Bool, true, false, inl, inr, List, [], ◌∷◌, ◌++◌, length, take, drop, map, refl, sym, ap, ◌∙◌, subst, arith}
-use Rattle.std.specs.Prelude.{codes, slice_index_or, if◌then◌else◌}
+use Rattle.std.proofs.Common.{◌≡◌, ℕ, zero, suc, ◌+◌, ◌-◌, ◌<◌, ◌≤◌, true, false, inl, inr, List, [], ◌∷◌, ◌++◌, length, take, refl, sym, ap, ◌∙◌, subst, arith}
+use Rattle.std.specs.Prelude.{codes, slice_index_or}
 use Rattle.std.specs.List.{All, list_all}
 use Rattle.std.proofs.lemmas.Bool.{cases_lt}
 use Rattle.std.proofs.lemmas.List.{append_assoc, length-append, length-take-le}
 use Rattle.std.proofs.lemmas.List.Elements.{All-nil, All-cons, All-push, All-head, All-tail}
 use Rattle.dcv_tokens.specs.Tokens.{is_word_byte}
-use Rattle.dcv_automaton_lines.specs.Pieces.{Exactly, Nothing, IsNoFurther, IsStuckIn}
-use Rattle.dcv_automaton_lines.proofs.Pieces.{same_front, append_none, cut_by, not_within, both, IsCut}
+use Rattle.dcv_automaton_lines.specs.Pieces.{Exactly, IsNoFurther, IsStuckIn}
+use Rattle.dcv_automaton_lines.proofs.Pieces.{append_none, cut_by, not_within, both}
 use Rattle.dcv_automaton_lines.proofs.WordSets.{AtFront}
 use Rattle.dcv_automaton_lines.proofs.LineSets.{Some}
 use Rattle.dcv_tables_read.specs.Form.{IsNameWord}
-use Rattle.dcv_tables_read.specs.Parts.{Spellings, Then, IsUnique, StopsNames, NameSet, NamesOf, AreNames, after_name, names_text}
-use Rattle.dcv_tables_read.proofs.Chain.{same_behind, stuck_same, stuck_first, stuck_next, some_spelling, lead_first, lead_next, tail_first, tail_next, stuck_spelled, unique_lead, unique_tail, unique_same}
+use Rattle.dcv_tables_read.specs.Parts.{Spellings, IsUnique, StopsNames, NameSet, NamesOf, AreNames, after_name, names_text}
+use Rattle.dcv_tables_read.proofs.Chain.{same_behind, stuck_same, stuck_first, stuck_next}
 
 -- ---- the letters, digits and `_` at the front
 
@@ -97,6 +97,7 @@ name_end_stuck behind word rest left text ends word_is after whole stuck =
     first_of : (front left other : List ℕ) (b : ℕ) → IsAfterWord (front ++ b ∷ left) → IsAfterWord (front ++ b ∷ other)
     first_of [] left other b after = after
     first_of (c ∷ front) left other b after = after
+
     cut : (name back : List ℕ) (goes : List ℕ) → IsNameWord name → IsAfterWord goes → (name ++ behind) ++ back ≡ word ++ goes → behind ++ back ≡ goes
     cut name back [] name_is after same = absurd (never behind ends (same ∙ append_none word))
       where
@@ -104,6 +105,7 @@ name_end_stuck behind word rest left text ends word_is after whole stuck =
         never [] ends same = ends
         never (e ∷ behind) ends same = not_within is_word_byte word name (behind ++ back) e word_is.bytes ends (sym (append_assoc name (e ∷ behind) back) ∙ same)
     cut name back (b ∷ goes) name_is after same = (same_names name word behind back goes name_is.bytes word_is.bytes ends b after same).1
+
     none : (front left : List ℕ) → IsAfterWord (front ++ left) → IsNoFurther (Exactly behind) front left → IsNoFurther (NameSet behind) (word ++ front) left
     none front [] after stuck = λ t more is same.
         stuck behind more (record { is = refl })
@@ -146,7 +148,7 @@ unique_names count (x ∷ xs) (y ∷ ys) a b x_is y_is same =
     let sizes : suc (length xs) ≡ suc (length ys) = x_is.many ∙ sym y_is.many in
     let size : length ys ≡ length xs = omega arith in
     let here = sym (append_assoc (with_end (length xs) x) (names_text xs) a) ∙ same ∙ append_assoc (with_end (length ys) y) (names_text ys) b
-        ∙ ap (λ n. with_end n y ++ (names_text ys ++ b)) size in
+    ∙ ap (λ n. with_end n y ++ (names_text ys ++ b)) size in
     let first = unique_next (length xs) x y (names_text xs ++ a) (names_text ys ++ b) (All-head IsNameWord x xs x_is.each) (All-head IsNameWord y ys y_is.each) here in
     let rest = unique_names (length xs) xs ys a b (record { many = refl; each = All-tail IsNameWord x xs x_is.each })
     (record { many = size; each = All-tail IsNameWord y ys y_is.each })

@@ -1,5 +1,5 @@
 -- Where a text is stuck in the counts line, or in a line of an array.
-use Rattle.std.proofs.Common.{◌≡◌, ℕ, ◌^◌, ◌<◌, false, List, [], ◌∷◌, ◌++◌, refl, sym, ap, ◌∙◌, subst, arith}
+use Rattle.std.proofs.Common.{◌≡◌, ℕ, List, [], ◌∷◌, ◌++◌, refl, sym, ap, ◌∙◌, arith}
 use Rattle.std.specs.Prelude.{codes}
 use Rattle.std.specs.Char.{is_ascii_digit}
 use Rattle.std.specs.Fmt.{decimal}
@@ -12,8 +12,8 @@ use Rattle.dcv_automaton_lines.specs.Parts.{NumberWord}
 use Rattle.dcv_automaton_lines.specs.Stops.{IsNumberEnd}
 use Rattle.dcv_automaton_lines.proofs.Pieces.{cut_by}
 use Rattle.dcv_automaton_lines.proofs.LineSets.{Some}
-use Rattle.dcv_tables_read.specs.Parts.{Spellings, Then, IsUnique, ended, Counted, count_text, CountSet, CountsValue, AreCounts, counts_text, CountsSet}
-use Rattle.dcv_tables_read.proofs.Chain.{same_behind, stuck_same, stuck_first, stuck_next, some_then, some_spelling, lead_first, lead_next, unique_lead}
+use Rattle.dcv_tables_read.specs.Parts.{Then, IsUnique, ended, Counted, count_text, CountSet, CountsValue, AreCounts, counts_text, CountsSet}
+use Rattle.dcv_tables_read.proofs.Chain.{same_behind, stuck_same, stuck_first, stuck_next, some_then, lead_first, lead_next, unique_lead}
 
 -- ---- a number and its end
 
@@ -100,29 +100,29 @@ pub counts_stuck : {text left : List ℕ} → IsStuckIn AllCounts text left → 
 counts_stuck stuck =
     stuck_same
     (λ text is.
-      let nodes = is.back_is in
-      let variables = nodes.back_is in
-      record {
-        item = record { states = is.item; nodes = nodes.item; variables = variables.item };
-        valid_item = record { states = is.valid_item; nodes = nodes.valid_item; variables = variables.valid_item };
-        is = is.whole ∙ ap (λ t. states_count is.item ++ t) (nodes.whole ∙ ap (λ t. nodes_count nodes.item ++ t)
-            (variables.whole ∙ ap (λ t. variables_count variables.item ++ t) variables.back_is.is)) ∙ counts_are is.item nodes.item variables.item;
-      })
+    let nodes = is.back_is in
+    let variables = nodes.back_is in
+    record {
+      item = record { states = is.item; nodes = nodes.item; variables = variables.item };
+      valid_item = record { states = is.valid_item; nodes = nodes.valid_item; variables = variables.valid_item };
+      is = is.whole ∙ ap (λ t. states_count is.item ++ t) (nodes.whole ∙ ap (λ t. nodes_count nodes.item ++ t)
+          (variables.whole ∙ ap (λ t. variables_count variables.item ++ t) variables.back_is.is)) ∙ counts_are is.item nodes.item variables.item;
+    })
     (λ text is.
-      let counts = is.item in
-      record {
-        item = counts.states;
-        valid_item = is.valid_item.states;
-        back = nodes_count counts.nodes ++ (variables_count counts.variables ++ counts_end);
-        back_is = record {
-          item = counts.nodes;
-          valid_item = is.valid_item.nodes;
-          back = variables_count counts.variables ++ counts_end;
-          back_is = record { item = counts.variables; valid_item = is.valid_item.variables; back = counts_end; back_is = record { is = refl }; whole = refl };
-          whole = refl;
-        };
-        whole = is.is ∙ sym (counts_are counts.states counts.nodes counts.variables);
-      })
+    let counts = is.item in
+    record {
+      item = counts.states;
+      valid_item = is.valid_item.states;
+      back = nodes_count counts.nodes ++ (variables_count counts.variables ++ counts_end);
+      back_is = record {
+        item = counts.nodes;
+        valid_item = is.valid_item.nodes;
+        back = variables_count counts.variables ++ counts_end;
+        back_is = record { item = counts.variables; valid_item = is.valid_item.variables; back = counts_end; back_is = record { is = refl }; whole = refl };
+        whole = refl;
+      };
+      whole = is.is ∙ sym (counts_are counts.states counts.nodes counts.variables);
+    })
     stuck
 
 some_last : Some LastCount

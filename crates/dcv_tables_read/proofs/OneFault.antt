@@ -1,16 +1,15 @@
 -- A text spells one unit. It has one fault at most, and none where it is read.
-use Rattle.std.proofs.Common.{◌≡◌, ℕ, suc, ◌+◌, ◌<◌, Bool, true, false, List, [], ◌∷◌, ◌++◌, length, Some, None, refl, sym, ap, subst, ◌∙◌, arith, append_assoc}
+use Rattle.std.proofs.Common.{◌≡◌, ℕ, ◌<◌, Bool, true, false, List, [], ◌∷◌, ◌++◌, length, Some, None, refl, sym, ap, subst, ◌∙◌, arith, append_assoc}
 use Rattle.std.specs.Prelude.{nat_lt}
 use Rattle.std.proofs.lemmas.Bool.Decides.{nat_tests}
 use Rattle.std.proofs.lemmas.List.{length-append}
-use Rattle.dcv_observer.specs.declared.fault.ObsFault.{ObsFault}
 use Rattle.dcv_observer.specs.declared.fault.ObsFault.TheVariants.{Syntax, Names, Memory}
 use Rattle.dcv_observer.specs.Subsets.{first_broken}
-use Rattle.dcv_automaton_lines.specs.Pieces.{Begins, IsFrontOnly, IsFaultAt}
+use Rattle.dcv_automaton_lines.specs.Pieces.{IsFrontOnly, IsFaultAt}
 use Rattle.dcv_automaton_lines.proofs.Pieces.{append_none}
 use Rattle.dcv_c_tables.specs.Unit.{Tables}
 use Rattle.dcv_tables_read.specs.Form.{HasForm, Form, IsSyntaxFault}
-use Rattle.dcv_tables_read.specs.Reading.{IsNamesFault, HasFault, IsReadAs, words_of, judged}
+use Rattle.dcv_tables_read.specs.Reading.{IsNamesFault, words_of, judged}
 use Rattle.dcv_tables_read.specs.Laws.{SpellsOne, OneFault, NoFaultWhereRead}
 use Rattle.dcv_tables_read.proofs.WholeTexts.{unique_tables}
 use Rattle.dcv_tables_read.proofs.JudgedWords.{kept_is_unbroken}

@@ -1,26 +1,26 @@
 -- The text of an automaton's tables is read back.
-use Rattle.std.proofs.Common.{◌≡◌, ◌≢◌, ℕ, suc, ◌+◌, ◌<◌, ◌≤◌, Bool, true, false, not, ◌&&◌, ◌||◌, ◌==◌, nat_le, List, [], ◌∷◌, ◌++◌, length, map, refl, sym, ap, subst, ◌∙◌, arith, append_assoc}
+use Rattle.std.proofs.Common.{◌≡◌, ℕ, ◌+◌, ◌≤◌, Bool, true, false, not, ◌&&◌, ◌||◌, ◌==◌, nat_le, List, [], ◌∷◌, ◌++◌, length, map, refl, sym, ap, subst, arith, append_assoc}
 use Rattle.std.specs.Prelude.{IsTrue}
-use Rattle.std.specs.List.{All, AllByRecursion, list_all}
+use Rattle.std.specs.List.{AllByRecursion, list_all}
 use Rattle.std.specs.Char.{is_ascii_digit}
 use Rattle.std.proofs.lemmas.Bool.Decides.{nat_tests}
 use Rattle.std.proofs.lemmas.List.Elements.{All-from_recursion, recursion_from_All}
 use Rattle.dcv_tokens.specs.Tokens.{is_name, is_word, is_word_byte}
 use Rattle.dcv_tokens.specs.Limits.{longest_word}
-use Rattle.dcv_language.specs.Limits.{most_variables, most_states, most_nodes}
+use Rattle.dcv_language.specs.Limits.{most_variables}
 use Rattle.dcv_observer.specs.Naming.{is_among, AreDistinct}
 use Rattle.dcv_observer.proofs.Naming.{among_here, distinct_apart}
 use Rattle.dcv_observer.proofs.ObserverNames.{variables_are_distinct}
 use Rattle.dcv_automaton_text.specs.File.{AutomatonFile}
 use Rattle.dcv_automaton_text.specs.Rules.{IsPlainName, AreNames, IsGood}
 use Rattle.dcv_automaton_file.proofs.ObservedFiles.{good_is_observable}
-use Rattle.dcv_c_tables.specs.Unit.{TableNode, TableState, Tables}
+use Rattle.dcv_c_tables.specs.Unit.{TableNode, Tables}
 use Rattle.dcv_c_tables.specs.Rules.{ArePlacedNodes, IsTables}
 use Rattle.dcv_c_tables.specs.Layout.{text_of}
 use Rattle.dcv_c_tables.specs.Observer.{parameter_name, tables_of}
 use Rattle.dcv_c_tables.specs.Laws.{TablesOfFile}
-use Rattle.dcv_tables_read.specs.Form.{IsSmallNode, IsSmallState, IsNameWord, IsParameter, IsPlainUnit, HasForm}
-use Rattle.dcv_tables_read.specs.Reading.{is_named, keeps_parameters, judged, IsReadAs}
+use Rattle.dcv_tables_read.specs.Form.{IsSmallNode, IsNameWord, IsParameter, IsPlainUnit}
+use Rattle.dcv_tables_read.specs.Reading.{is_named, keeps_parameters, IsReadAs}
 use Rattle.dcv_tables_read.specs.Laws.{TextIsReadBack}
 use Rattle.dcv_tables_read.proofs.KeptRules.{AllKept, both_true, true_both, rules_kept}
 

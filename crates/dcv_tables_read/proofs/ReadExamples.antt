@@ -1,11 +1,10 @@
 -- What is judged of worked units, by computing.
-use Rattle.std.proofs.Common.{◌≡◌, true, false, [], ◌∷◌, ◌++◌, None, Some, refl, codes, map}
+use Rattle.std.proofs.Common.{◌≡◌, true, false, [], ◌∷◌, None, Some, refl, codes, map}
 use Rattle.std.specs.Fmt.{digits}
 use Rattle.dcv_tokens.specs.Tokens.{reserved_words}
 use Rattle.dcv_lexer.specs.Cuts.{Token}
 use Rattle.dcv_observer.specs.Subsets.{first_broken}
 use Rattle.dcv_c_tables.specs.Unit.{Tables}
-use Rattle.dcv_c_tables.specs.Layout.{layout_of, text_of}
 use Rattle.dcv_tables_read.specs.Reading.{judged, words_of}
 
 -- the place of the second child of a node is its own

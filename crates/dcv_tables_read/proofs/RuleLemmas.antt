@@ -1,10 +1,9 @@
 -- The words of a whole unit are judged in turn.
-use Rattle.std.proofs.Common.{◌≡◌, ℕ, suc, ◌+◌, ◌<◌, Bool, nat_lt, List, [], ◌∷◌, ◌++◌, length, map, None, Some, Result, Ok, Err, refl, sym, ap, ◌∙◌, subst, arith}
+use Rattle.std.proofs.Common.{◌≡◌, ℕ, suc, ◌+◌, ◌<◌, nat_lt, List, [], ◌∷◌, ◌++◌, length, map, None, Some, Result, Ok, refl, sym, ap, ◌∙◌, subst, arith}
 use Rattle.std.proofs.lemmas.List.{length-append, length-map}
 use Rattle.std.specs.Result.{IsErrAnd}
 use Rattle.dcv_lexer.specs.Cuts.{Token}
 use Rattle.dcv_observer.specs.Subsets.{first_broken}
-use Rattle.dcv_observer.specs.Layouts.{Each}
 use Rattle.dcv_c_tables.specs.Unit.{TableNode, TableState, Tables}
 use Rattle.dcv_c_tables.specs.Layout.{text_in, number_line, opening, closing, array_lines, char_type, variable_head, high_head, low_head, node_arrays}
 use Rattle.dcv_tables_read.specs.Reading.{keeps_variables, keeps_children, keeps_rows, entries, array_size, array_words}

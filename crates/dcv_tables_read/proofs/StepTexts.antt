@@ -1,21 +1,19 @@
 -- Where a text is stuck in the functions.
 use Rattle.std.proofs.Common.{◌≡◌, ℕ, zero, suc, ◌+◌, ◌<◌, ◌≤◌, Bool, List, [], ◌∷◌, ◌++◌, length, map, drop, get_or, refl, sym, ap, ◌∙◌, subst, arith}
 use Rattle.std.specs.Prelude.{codes}
-use Rattle.std.specs.List.{All, flat_map, join_by, enumerate_from}
-use Rattle.std.specs.Fmt.{decimal}
+use Rattle.std.specs.List.{join_by, enumerate_from}
 use Rattle.std.proofs.lemmas.List.{append_assoc, drop_all}
 use Rattle.std.proofs.Math.Seq.{drop-cons}
 use Rattle.std.specs.Borrow.{Bor}
 use Rattle.std.proofs.lemmas.List.Elements.{All-nil, All-cons}
 use Rattle.dcv_automaton_lines.specs.Pieces.{Exactly, IsStuckIn}
 use Rattle.dcv_automaton_lines.proofs.Pieces.{append_none}
-use Rattle.dcv_automaton_lines.proofs.LineSets.{Some}
-use Rattle.dcv_observer.specs.Layouts.{Each, Joined, Word}
+use Rattle.dcv_observer.specs.Layouts.{Each, Word}
 use Rattle.dcv_c_tables.specs.Layout.{text_in, reset_lines, declaration, letter_line, if_some, at_line, loop_line}
 use Rattle.dcv_c_tables.specs.Observer.{parameter_name}
 use Rattle.dcv_tables_read.specs.Form.{IsNameWord}
 use Rattle.dcv_tables_read.specs.Values.{words_in}
-use Rattle.dcv_tables_read.specs.Parts.{Spellings, IsUnique, AreNames, names_text, NamesOf, after_name, parameters_text, ParametersSet, body_text, step_text, StepSet}
+use Rattle.dcv_tables_read.specs.Parts.{IsUnique, AreNames, names_text, NamesOf, parameters_text, ParametersSet, body_text, step_text, StepSet}
 use Rattle.dcv_tables_read.proofs.Chain.{stuck_in_front, stuck_in_back, stuck_same, stuck_otherwise, lead_first, lead_next, tail_first, tail_next, unique_lead, unique_tail}
 use Rattle.dcv_tables_read.proofs.NameLists.{p_is, names_stuck, unique_names}
 

@@ -1,5 +1,5 @@
 -- The words of a whole unit are judged part by part, and its text has room for all of them.
-use Rattle.std.proofs.Common.{◌≡◌, ℕ, suc, ◌+◌, ◌*◌, ◌≤◌, Bool, true, false, List, [], ◌∷◌, ◌++◌, length, map, None, Some, Result, refl, sym, ap, ◌∙◌, subst, arith, codes, append_assoc}
+use Rattle.std.proofs.Common.{◌≡◌, ℕ, suc, ◌+◌, ◌*◌, ◌≤◌, Bool, true, false, List, [], ◌∷◌, ◌++◌, length, None, Some, Result, refl, sym, ap, ◌∙◌, subst, arith, codes, append_assoc}
 use Rattle.std.specs.List.{flat_map}
 use Rattle.std.specs.Fmt.{digits}
 use Rattle.std.proofs.lemmas.List.{length-append}
@@ -7,11 +7,11 @@ use Rattle.std.specs.Result.{IsErrAnd}
 use Rattle.dcv_lexer.specs.Cuts.{Token}
 use Rattle.dcv_observer.specs.Subsets.{first_broken}
 use Rattle.dcv_observer.specs.Layouts.{Each}
-use Rattle.dcv_c_tables.specs.Unit.{TableNode, TableState, Tables}
-use Rattle.dcv_c_tables.specs.Layout.{text_in, type_of, counts_line, char_type, variable_head, high_head, low_head, row_head, accept_head, number_line, closing, accept_number, row_line, accept_line, array_lines, node_arrays, state_arrays, reset_lines, step_lines, declaration, parameters_layout, body_lines, has_nodes, layout_of, text_of}
+use Rattle.dcv_c_tables.specs.Unit.{TableState, Tables}
+use Rattle.dcv_c_tables.specs.Layout.{text_in, type_of, counts_line, char_type, variable_head, high_head, low_head, row_head, accept_head, number_line, closing, accept_number, row_line, accept_line, array_lines, node_arrays, state_arrays, reset_lines, declaration, parameters_layout, body_lines, has_nodes, layout_of, text_of}
 use Rattle.dcv_tables_read.specs.Reading.{keeps_counts, keeps_variables, keeps_rows, keeps_parameters, parameter_words, array_size, array_words, count_words, words_of, judged}
 use Rattle.dcv_tables_read.specs.Judged.{IsJudgedWhole, variable_numbers, high_numbers, low_numbers, row_numbers, keeps_highs, keeps_lows, keeps_nodes, node_words, parameters_size}
-use Rattle.dcv_tables_read.proofs.JudgedWords.{stops, whole_stopped, whole_later}
+use Rattle.dcv_tables_read.proofs.JudgedWords.{whole_stopped, whole_later}
 use Rattle.dcv_tables_read.proofs.RuleLemmas.{array_same, many_rows, many_nodes}
 
 many_parameters : (at : ℕ) (earlier parameters : List (List ℕ)) → length (parameter_words at parameters) ≡ length (keeps_parameters earlier parameters)

@@ -1,20 +1,20 @@
 -- Where a whole text is stuck, and what is read of it.
-use Rattle.std.proofs.Common.{◌≡◌, ℕ, zero, suc, ◌+◌, ◌-◌, ◌<◌, Bool, true, false, List, [], ◌∷◌, ◌++◌, length, map, refl, sym, ap, ◌∙◌, subst, arith}
+use Rattle.std.proofs.Common.{◌≡◌, ℕ, suc, ◌+◌, ◌-◌, List, [], ◌∷◌, ◌++◌, length, map, refl, sym, ap, ◌∙◌, subst, arith}
 use Rattle.std.specs.Prelude.{codes, nat_lt}
 use Rattle.std.specs.List.{All}
 use Rattle.std.proofs.lemmas.List.{append_assoc, length-append}
 use Rattle.std.proofs.lemmas.List.Elements.{All-nil, All-cons, All-head, All-tail}
 use Rattle.dcv_automaton_text.specs.Form.{IsNumber}
-use Rattle.dcv_automaton_lines.specs.Pieces.{Exactly, Nothing, IsStuckIn, IsFaultAt, IsFrontOnly}
-use Rattle.dcv_automaton_lines.proofs.Pieces.{append_none, stuck_is_fault}
+use Rattle.dcv_automaton_lines.specs.Pieces.{IsStuckIn, IsFaultAt}
+use Rattle.dcv_automaton_lines.proofs.Pieces.{append_none}
 use Rattle.dcv_automaton_lines.proofs.LineSets.{Some}
 use Rattle.dcv_c_tables.specs.Unit.{TableNode, TableState, Tables}
-use Rattle.dcv_c_tables.specs.Layout.{text_in, type_for, has_nodes, text_of, layout_of, parameters_layout, reset_lines}
+use Rattle.dcv_c_tables.specs.Layout.{text_in, has_nodes, text_of, layout_of, parameters_layout, reset_lines}
 use Rattle.dcv_c_tables.specs.Observer.{parameter_name}
 use Rattle.std.specs.Borrow.{Bor}
 use Rattle.dcv_tables_read.specs.Values.{words_in}
-use Rattle.dcv_tables_read.specs.Form.{IsNameWord, IsParameter, IsPlainUnit, HasForm, Form, IsSyntaxFault}
-use Rattle.dcv_tables_read.specs.Parts.{Spellings, Then, IsUnique, CountsValue, AreCounts, counts_text, CountsSet, AreNodes, nodes_text, NodesSet, AreStates, states_text, StatesSet, AreNames, step_text, body_text, StepSet, UnitSet, AfterCounts, AfterNodes, integer_of}
+use Rattle.dcv_tables_read.specs.Form.{IsNameWord, IsParameter, IsPlainUnit, Form, IsSyntaxFault}
+use Rattle.dcv_tables_read.specs.Parts.{IsUnique, CountsValue, AreCounts, counts_text, CountsSet, AreNodes, nodes_text, NodesSet, AreStates, states_text, StatesSet, AreNames, step_text, body_text, StepSet, UnitSet, AfterCounts, AfterNodes, integer_of}
 use Rattle.dcv_tables_read.proofs.Chain.{same_behind, stuck_same, stuck_first, stuck_next, some_then, some_spelling}
 use Rattle.dcv_tables_read.proofs.Numbers.{unique_counts}
 use Rattle.dcv_tables_read.proofs.ArrayTexts.{unique_nodes, some_nodes, unique_states, some_states}
@@ -46,9 +46,9 @@ unfolding text_of layout_of
 parts_are names nodes states =
     let integer = integer_of (counted names nodes states) in
     (λ i. counts_text (record { states = length states; nodes = length nodes; variables = sym (names_length names) i })
-        ++ (nodes_text integer nodes ++ (states_text integer states ++ step_text integer (sym (has_is nodes) i) names)))
+    ++ (nodes_text integer nodes ++ (states_text integer states ++ step_text integer (sym (has_is nodes) i) names)))
     ∙ ap (λ t. counts_text (record { states = length states; nodes = length nodes; variables = length (map parameter_name names) })
-        ++ (nodes_text integer nodes ++ (states_text integer states ++ (text_in (reset_lines integer) ++ t))))
+    ++ (nodes_text integer nodes ++ (states_text integer states ++ (text_in (reset_lines integer) ++ t))))
     (append_assoc (text_in (parameters_layout (map parameter_name names))) (codes ")\n{\n") (body_text integer (has_nodes nodes) names))
 
 -- ---- what was read is a unit
@@ -104,12 +104,14 @@ unit_from text is =
     let names = states.back_is in
     let read : IsRead is.item names.item nodes.item states.item =
     record { counts_are = is.valid_item; names_are = names.valid_item; nodes_are = nodes.valid_item; states_are = states.valid_item } in
-    let integer = integer_of is.item in
-    (unit_of names.item nodes.item states.item, record {
-      plain = plain_read read;
-      spelled = is.whole ∙ ap (λ t. counts_text is.item ++ t) (nodes.whole ∙ ap (λ t. nodes_text integer nodes.item ++ t)
-          (states.whole ∙ ap (λ t. states_text integer states.item ++ t) names.is)) ∙ text_read read;
-    })
+    let integer = integer_of is.item in (
+      unit_of names.item nodes.item states.item,
+      record {
+        plain = plain_read read;
+        spelled = is.whole ∙ ap (λ t. counts_text is.item ++ t) (nodes.whole ∙ ap (λ t. nodes_text integer nodes.item ++ t)
+            (states.whole ∙ ap (λ t. states_text integer states.item ++ t) names.is)) ∙ text_read read;
+      },
+    )
 
 unit_into : (text : List ℕ) → Form text → UnitSet text
 unit_into text (tables, form) =

@@ -14,12 +14,12 @@ use Rattle.std.specs.Fmt.{decimal}
 use Rattle.std.specs.List.{All}
 use Rattle.dcv_tokens.specs.Tokens.{is_word_byte}
 use Rattle.dcv_automaton_text.specs.Form.{IsNumber}
-use Rattle.dcv_automaton_lines.specs.Pieces.{Exactly, Nothing}
+use Rattle.dcv_automaton_lines.specs.Pieces.{Nothing}
 use Rattle.dcv_observer.specs.Layouts.{Each}
 use Rattle.dcv_c_tables.specs.Unit.{TableNode, TableState}
 use Rattle.dcv_c_tables.specs.Observer.{parameter_name}
-use Rattle.dcv_c_tables.specs.Layout.{text_in, type_for, counts_line, number_line, opening, closing, array_lines, node_arrays, state_arrays}
-use Rattle.dcv_c_tables.specs.Layout.{reset_lines, parameters_layout, body_lines, has_nodes}
+use Rattle.dcv_c_tables.specs.Layout.{text_in, type_for, counts_line, number_line, array_lines, node_arrays, state_arrays}
+use Rattle.dcv_c_tables.specs.Layout.{reset_lines, parameters_layout, body_lines}
 use Rattle.dcv_tables_read.specs.Form.{IsSmallNode, IsSmallState, IsNameWord}
 use Rattle.dcv_tables_read.specs.declared.entries.Entry.{Entry}
 use Rattle.dcv_tables_read.specs.declared.entries.Entry.TheVariants.{Number, Answer}

@@ -1,6 +1,6 @@
 -- How clauses see a unit that was read.
 --     seen_tables unit        the unit as plain data
-use Rattle.std.specs.Prelude.{List, ℕ, map}
+use Rattle.std.specs.Prelude.{map}
 use Rattle.dcv_c_tables.specs.Unit.{TableNode as Node, TableState as State, Tables}
 use Rattle.dcv_c_tables.specs.Observer.{parameter_name}
 use Rattle.dcv_tables_read.specs.declared.unit.TableNode.{TableNode}

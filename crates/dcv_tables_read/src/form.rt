@@ -1,5 +1,5 @@
 // The reader of the form.
-ghost use Rattle.std.specs.Prelude.{◌≢◌, ◌≡◌, ◌<◌, ◌^◌, ◌++◌, ℕ, length, IfOk, IfErr};
+ghost use Rattle.std.specs.Prelude.{◌≢◌, ◌≡◌, ◌<◌, ◌≤◌, ◌^◌, ◌++◌, ℕ, length, IfOk, IfErr};
 ghost use Rattle.dcv_automaton_lines.specs.Stops.{IsStuckStop};
 ghost use Rattle.dcv_observer.specs.declared.fault.ObsFault.TheVariants.{Syntax, Memory};
 ghost use Rattle.dcv_c_tables.specs.Layout.{type_for, text_of};
@@ -14,9 +14,10 @@ use dcv_automaton_lines::Stop;
 use dcv_observer::ObsFault;
 use std::alloc::Global;
 
-// The type of so many places.
-fn integer(places: u32) -> &'static [u8]
-    ensures { result.now ≡ type_for places }
+/// The type of so many places.
+pub(crate) fn integer(places: u32) -> &'static [u8]
+    ensures is { result.now ≡ type_for places }
+    ensures short { length result.now ≤ 14 }
 {
     if places > 65_535 {
         b"unsigned long"
@@ -26,10 +27,7 @@ fn integer(places: u32) -> &'static [u8]
 }
 
 // The unit at the front of a text, and the text after it.
-fn front<'a>(
-    alloc: Global,
-    text: &'a [u8],
-) -> Result<(TableUnit<'a>, &'a [u8]), Stop<'a>>
+fn front<'a>(alloc: Global, text: &'a [u8]) -> Result<(TableUnit<'a>, &'a [u8]), Stop<'a>>
     ensures plain { IfOk result (λ read. IsPlainUnit (seen_tables read.0)) }
     ensures spelled { IfOk result (λ read. text.now ≡ text_of (seen_tables read.0) ++ read.1.now) }
     ensures fault { IsStuckStop Form text.now result }

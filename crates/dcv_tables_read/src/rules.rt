@@ -1,29 +1,18 @@
 // The numbers of a unit are judged in the order of the text, and then its parameters.
 ghost use Rattle.std.specs.Prelude.{◌≡◌, ◌+◌, ◌*◌, ◌^◌, ◌<◌, ◌≤◌, ◌++◌, ◌&&◌, nat_lt, nat_le, length, map, OnOk};
 ghost use Rattle.dcv_language.specs.Limits.{most_states, most_nodes};
-ghost use Rattle.dcv_c_tables.specs.Layout.{text_in, type_for, type_of, counts_line, opening, char_type, variable_head, high_head, low_head, row_head, node_arrays, state_arrays, text_of};
+ghost use Rattle.dcv_c_tables.specs.Layout.{text_in, type_of, counts_line, opening, char_type, variable_head, high_head, low_head, row_head, node_arrays, state_arrays, text_of};
 ghost use Rattle.dcv_tables_read.specs.Reading.{keeps_counts, keeps_variables, keeps_children, keeps_rows, entries, count_words, array_size, array_words, words_of, judged};
 ghost use Rattle.dcv_tables_read.specs.Seen.{seen_tables};
 ghost use Rattle.dcv_tables_read.specs.Judged.{IsJudged, IsJudgedWhole, judged_from, lines_of, variable_numbers, high_numbers, low_numbers, row_numbers, keeps_highs, keeps_lows, node_words, keeps_nodes};
 
 use crate::array_rules::{Highs, Lows, Rows, Rule, Variables, digits_of, judge_numbers};
+use crate::form::integer;
 use crate::names::judge_names;
 use crate::unit::TableUnit;
 use dcv_language::{MOST_NODES, MOST_STATES, MOST_VARIABLES};
 
 const CHAR: &[u8] = b"unsigned char";
-
-const SHORT: &[u8] = b"unsigned short";
-
-const LONG: &[u8] = b"unsigned long";
-
-// The type of so many places.
-fn integer(places: usize) -> &'static [u8]
-    ensures is { result.now ≡ type_for places }
-    ensures short { length result.now ≤ 14 }
-{
-    if places > 65_535 { LONG } else { SHORT }
-}
 
 // Whether there is a state, and not too many of them.
 fn keeps_states(states: usize) -> bool
@@ -147,7 +136,7 @@ pub(crate) fn judge(unit: &TableUnit<'_>) -> Result<(), u32>
     ensures { IsJudgedWhole (words_of (seen_tables unit.now)) (judged (seen_tables unit.now)) result }
 {
     let arrays = judge_counts(unit)?;
-    let integer = integer(unit.states.len() + unit.nodes.len());
+    let integer = integer((unit.states.len() + unit.nodes.len()) as u32);
     let rows = judge_nodes(unit, integer, arrays)?;
     let accepts = judge_rows(unit, integer, rows)?;
     judge_names(
