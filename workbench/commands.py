@@ -61,6 +61,7 @@ PROGRAM = (
     Command("convert", "FILE", "an automaton's text in version 1 or 2", (Option("--to", "N", "the version, 1 or 2"),)),
     Command("replay-lustre", "OBSERVER TRACE", "what an observer in Lustre answers at each instant of a trace"),
     Command("replay-c", "OBSERVER TRACE", "what an observer in C answers at each instant of a trace"),
+    Command("replay-tables", "OBSERVER TRACE", "what an observer in constant tables of C answers at each instant of a trace"),
     Command("sweep", "SEED COUNT", "counts over 1 to 1000 formulas that are drawn from a seed"),
     Command("together", "FILE ..", "whether requirements can be satisfied together, and whether what has kept to all so far can always go on", LIMITS + (TUPLES,)),
     Command("follows", "FILE ..", "whether the first requirement follows from the others, or a shortest behaviour that shows that it does not", LIMITS + (TUPLES,)),
