@@ -20,11 +20,11 @@ class Confirmation:
             self.traces[monitor] = Trace(self.program, monitor.text, monitor.automaton, monitor.codes, path, self.most)
         return self.traces[monitor]
 
-    def breach(self, monitor: Monitor, codes: str, instant: int, is_told: bool) -> None:
+    def breach(self, monitor: Monitor, codes: str, instant: int, is_reported: bool) -> None:
         """Letters up to a breach, after which the requirement begins anew: the tables answer 0 to the last one, and 1 before."""
         trace = self.trace(monitor)
         trace.add(codes)
-        if is_told or self.everything:
+        if is_reported or self.everything:
             self.same(monitor, "1" * (trace.size - 1) + "0", instant)
         trace.restart()
 

@@ -19,6 +19,7 @@ from program import NO_PROGRAM, SCRIPT, Answer, Program, Refusal, place_of_file
 from spots import shown
 from waves import heading, instants, spoken_runs, table, waves
 
+REPLAYS = {"an observer in Lustre": "replay-lustre", "an observer in C": "replay-c", "an observer in tables": "replay-tables"}
 HELP = """usage: explain [--table] [--show] COMMAND ..
 
 Runs dcvalid COMMAND .. and says its answer in more words: behaviours as waves (--table: as digits), a fault with its line, what may
@@ -148,7 +149,7 @@ class Explainer:
 
     def no_text(self, message: str, status: int) -> List[str]:
         """A text that is no observer, or no automaton."""
-        what, right = ("observer", ("an observer in Lustre", "an observer in C")) if status == 9 else ("automaton", ("the text of an automaton",))
+        what, right = ("observer", tuple(REPLAYS)) if status == 9 else ("automaton", ("the text of an automaton",))
         match = re.match(r"fault \w+ (\w+) at (\d+)", message)
         if match is None:
             return hints.of_message(message)
@@ -165,8 +166,9 @@ class Explainer:
         other = faults.named_file(text)
         command = self.question.command
         if other in right and status == 9 and kind == "syntax":
-            suits = "replay-c" if other == "an observer in C" else "replay-lustre"
-            return [said[kind]] + ([f"  This is {other}, which {suits} runs."] if suits != command else [])
+            return [said[kind]] + ([f"  This is {other}, which {REPLAYS[other]} runs."] if REPLAYS[other] != command else [])
+        if command == "replay-tables" and kind == "names":
+            return [f"The number or the parameter at byte {place} of the observer (line {line}) breaks a rule of tables."]
         return [said[kind], *faults.wrong_kind(text, *right)]
 
 

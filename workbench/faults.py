@@ -16,7 +16,8 @@ def named_file(text: str) -> Optional[str]:
     """What kind of file a text is, where that is seen at its beginning; else nothing."""
     kinds = (
         (r"automaton [12]\n", "the text of an automaton"), (r"node \w+\s*\(", "an observer in Lustre"),
-        (r"static int |void \w+_reset", "an observer in C"), (r"(not )?valid\n", "a report of check"), (r"--- verdict\n", "a report of all"),
+        (r"static int |void \w+_reset", "an observer in C"), (r"enum \{ states = ", "an observer in tables"),
+        (r"(not )?valid\n", "a report of check"), (r"--- verdict\n", "a report of all"),
         (r"(un)?realisable\n", "a report of synth"), (r"implies\n|does not imply\n", "a report of implies"),
         (r"([01]+\n|-\n)+([01]*|-)$", "a trace"), (r"\$(date|timescale|version|scope|comment)\b", "a VCD file"),
         (r"#!", "a script"), (r"\x7fELF|MZ", "a program"), (r"\w+(,\s*\w+)+\r?\n", "a CSV file"),

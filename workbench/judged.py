@@ -72,7 +72,7 @@ class Judge:
             raise fault
 
     def tell(self, active: Sequence[Monitor], codes: Sequence[str], found: Sequence[Sequence[int]], labels: Sequence[str]) -> None:
-        """Tells the breaches among some rows, in their order."""
+        """Reports the breaches among some rows, in their order."""
         places = sorted((place, number) for number, broken in enumerate(found) for place in broken)
         begin = [0] * len(active)  # where each requirement began anew
         for place, number in places:
@@ -89,7 +89,7 @@ class Judge:
                 it.earlier = it.runs(letters, self.count, labels)
 
     def breach(self, it: Monitor, codes: str, begin: int, place: int, labels: Sequence[str]) -> None:
-        """Tells a breach, which is confirmed before."""
+        """Reports a breach, which is confirmed before."""
         instant, label = self.count + place, labels[place].strip()
         self.confirmation.breach(it, codes[begin:place + 1], instant, self.report.wants(it))
         runs = it.runs(codes[:place + 1], self.count, labels) if it.first_breach is None else []

@@ -202,9 +202,13 @@ class Files(WithFolder):
         formula = self.file("text.dc", "var p; infer [[p]];")
         trace = self.file("t.trace", "1\n0\n")
         observer = self.file("observer.c", run("ask", "explain", "c", formula)[1])
+        tables = self.file("tables.c", run("ask", "explain", "tables", formula)[1])
+        wrong = self.file("wrong.c", run("ask", "explain", "tables", formula)[1].replace("row[states] = {\n  ", "row[states] = {\n  99"))
         rows = (
             (10, "This is a formula file", "certify", formula), (9, "This is a trace", "replay-c", trace, trace),
             (9, "which replay-c runs", "replay-lustre", observer, trace), (8, "This is a formula file", "replay-c", observer, formula),
+            (9, "which replay-tables runs", "replay-c", tables, trace), (9, "which replay-c runs", "replay-tables", observer, trace),
+            (9, "breaks a rule of tables", "replay-tables", wrong, trace),
         )
         for wanted, said, *words in rows:
             status, _, error = run("explain", *words)
