@@ -5,8 +5,7 @@ pub mod Derivations
 pub mod Steps
 pub mod Stacks
 pub mod TreeLaws
-pub mod ReadingLaws
-pub mod Builders
+pub mod SentenceTrees
 pub mod Tables
 pub mod Verdicts
 pub mod Readings

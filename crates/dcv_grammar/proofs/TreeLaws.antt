@@ -12,16 +12,6 @@ use Rattle.dcv_grammar.proofs.Facts.{facts, hints}
 use Rattle.dcv_grammar.proofs.Derivations.{rule_with, derives_append, body_picked, reached_guarded}
 
 module _ {T : Type 0} where
-  pub join_done : (a : Nodes T) → join a done ≡ a
-  join_done done = refl
-  join_done (leaf t a) = ap (leaf t) (join_done a)
-  join_done (node n i a) = ap (node n i) (join_done a)
-
-  pub join_assoc : (a b c : Nodes T) → join (join a b) c ≡ join a (join b c)
-  join_assoc done b c = refl
-  join_assoc (leaf t a) b c = ap (leaf t) (join_assoc a b c)
-  join_assoc (node n i a) b c = ap (node n i) (join_assoc a b c)
-
   pub leaves_join : (a b : Nodes T) → leaves (join a b) ≡ leaves a ++ leaves b
   leaves_join done b = refl
   leaves_join (leaf t a) b = ap (λ l. t ∷ l) (leaves_join a b)
@@ -69,29 +59,6 @@ module _ {T : Type 0} (g : ContextFree) (class_of : T → ℕ) where
       let (body, inner, next, e, k, hi, more) = rule_tree n (s ++ v) all h in
       let (a, b, i, ha, hb) = trees_parts s v next more in
       (node n inner a, b, e ∙ ap (node n inner) i, (refl, (body, k, hi), ha), hb)
-
-  -- symbols have as many trees as they are
-  pub same_parts : (s : List Symbol) (a b c d : Nodes T) → AreTrees g class_of s a → AreTrees g class_of s c → join a b ≡ join c d → (a ≡ c) × (b ≡ d)
-  same_parts [] a b c d ha hc e =
-      let ea = no_trees a ha in
-      let ec = no_trees c hc in
-      (ea ∙ sym ec, sym (ap (λ x. join x b) ea) ∙ e ∙ ap (λ x. join x d) ec)
-  same_parts (Class k ∷ s) a b c d ha hc e =
-      let (t, next, ea, i, more) = class_tree k s a ha in
-      let (u, next2, ec, j, more2) = class_tree k s c hc in
-      let both : leaf t (join next b) ≡ leaf u (join next2 d) = sym (ap (λ x. join x b) ea) ∙ e ∙ ap (λ x. join x d) ec in
-      let same_token : t ≡ u = cc in
-      let same_next : join next b ≡ join next2 d = cc in
-      let rest = same_parts s next b next2 d more more2 same_next in
-      (ea ∙ ap (λ x. leaf x next) same_token ∙ ap (leaf u) rest.0 ∙ sym ec, rest.1)
-  same_parts (Rule n ∷ s) a b c d ha hc e =
-      let (body, inner, next, ea, i, hi, more) = rule_tree n s a ha in
-      let (body2, inner2, next2, ec, j, hj, more2) = rule_tree n s c hc in
-      let both : node n inner (join next b) ≡ node n inner2 (join next2 d) = sym (ap (λ x. join x b) ea) ∙ e ∙ ap (λ x. join x d) ec in
-      let same_inner : inner ≡ inner2 = cc in
-      let same_next : join next b ≡ join next2 d = cc in
-      let rest = same_parts s next b next2 d more more2 same_next in
-      (ea ∙ ap (λ x. node n x next) same_inner ∙ ap (node n inner2) rest.0 ∙ sym ec, rest.1)
 
   -- the leaves of trees are derived
   pub derives_leaves : (s : List Symbol) (a : Nodes T) → AreTrees g class_of s a → Derives g s (map class_of (leaves a))

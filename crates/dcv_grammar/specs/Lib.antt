@@ -1,9 +1,7 @@
--- what public clauses cite: sentences and verdicts, the test of grammars, derivation trees, what builders of trees say, and what a
--- reader has taken
+-- what public clauses cite: sentences and verdicts, the test of grammars, derivation trees, and what a reader has taken
 pub mod Grammar
 pub mod Predictive
 pub mod Trees
-pub mod Reading
 pub mod Taking
 -- what those stand on: sets of classes, and which body a class picks
 pub mod ClassSet

@@ -10,7 +10,7 @@ use Rattle.dcv_grammar.specs.declared.grammar.Symbol.TheVariants.{Rule}
 use Rattle.dcv_grammar.specs.Grammar.{IsSentence}
 use Rattle.dcv_grammar.specs.Predictive.{IsPredictive}
 use Rattle.dcv_grammar.specs.Trees.{Nodes, AreTrees, IsTree}
-use Rattle.dcv_grammar.proofs.ReadingLaws as laws
+use Rattle.dcv_grammar.proofs.SentenceTrees as laws
 use Rattle.dcv_grammar.proofs.TreeLaws.{derives_leaves, trees_derived}
 use Rattle.dcv_lexer.specs.Cuts.{Token}
 use Rattle.dcv_observer.specs.declared.fault.ObsFault.{ObsFault}

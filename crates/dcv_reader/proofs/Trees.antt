@@ -2,7 +2,7 @@
 use Rattle.std.proofs.Common.{◌≡◌, ◌↔◌, ℕ, List, [], ◌∷◌, map, sym, ap, ◌∙◌, subst}
 use Rattle.dcv_syntax.specs.Plain.{PlainFile}
 use Rattle.dcv_grammar.specs.Grammar.{IsSentence}
-use Rattle.dcv_grammar.proofs.ReadingLaws as laws
+use Rattle.dcv_grammar.proofs.SentenceTrees as laws
 use Rattle.dcv_tokens.specs.Tokens.{Token, tokens_from}
 use Rattle.dcv_tokens.proofs.Cuts.{cut_is_unique}
 use Rattle.dcv_sentence.specs.Language.{language}

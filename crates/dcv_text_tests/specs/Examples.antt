@@ -1,9 +1,8 @@
--- Grammars that the test passes or refuses, and one with what its trees mean.
+-- Grammars that the test passes or refuses.
 use Rattle.std.specs.Prelude.{ℕ, zero, suc, ◌+◌, ◌%◌, ◌^◌, ◌==◌, max, if◌then◌else◌, List, [], ◌∷◌}
 use Rattle.dcv_grammar.specs.declared.grammar.Symbol.{Symbol}
 use Rattle.dcv_grammar.specs.declared.grammar.Symbol.TheVariants.{Class, Rule}
 use Rattle.dcv_grammar.specs.Grammar.{Alternative, Production, ContextFree}
-use Rattle.dcv_grammar.specs.Trees.{Nodes, done, leaf, node}
 
 -- a body, and the one class that picks it
 abbrev pub after : ℕ → List Symbol → Alternative
@@ -24,12 +23,6 @@ more = record { alternatives = after 2 (Class 2 ∷ Rule 0 ∷ Rule 2 ∷ []) �
 
 unfoldable pub lists : ContextFree
 lists = record { start = 0; productions = item ∷ items ∷ more ∷ [] }
-
--- How deep the trees of lists are nested, as a byte: a name is 1 deep, and each pair of parentheses is one more.
-abbrev pub depth : Nodes ℕ → ℕ
-depth done = 0
-depth (leaf class next) = depth next
-depth (node rule inner next) = max (if rule == 0 then (depth inner + 1) % 2 ^ 8 else depth inner) (depth next)
 
 -- with a dangling else: statement = "if" statement rest | "other", rest = "else" statement | nothing
 abbrev pub dangling_else : ContextFree

@@ -1,14 +1,11 @@
-// Nested lists: a grammar, a builder of its trees, and grammars that the test of predictive ones passes or refuses.
-ghost use Rattle.std.specs.Prelude.{◌≡◌, ℕ, true, false, IfOk, MatchResult, map, [], ◌∷◌};
-ghost use Rattle.dcv_grammar.specs.Grammar.{production_of, IsFaultAt, IsVerdict};
+// Nested lists: a grammar and its first faults, and grammars that the test of predictive ones passes or refuses.
+ghost use Rattle.std.specs.Prelude.{◌≡◌, true, false, IfOk, map, [], ◌∷◌};
+ghost use Rattle.dcv_grammar.specs.Grammar.{production_of, IsVerdict};
 ghost use Rattle.dcv_grammar.specs.Predictive.{is_predictive};
-ghost use Rattle.dcv_grammar.specs.Trees.{Nodes, done, node, IsTree};
-ghost use Rattle.dcv_grammar.specs.Reading.{BeginsRule, ReadsRule};
-ghost use Rattle.dcv_text_tests.specs.Examples.{lists, item, items, more, depth, dangling_else, left_recursion, common_beginning, endless, unknown_rule, thirty_levels};
+ghost use Rattle.dcv_text_tests.specs.Examples.{lists, item, items, more, dangling_else, left_recursion, common_beginning, endless, unknown_rule, thirty_levels};
 
-use dcv_grammar::grammar::{Alternative, Classified, ContextFree, Production, Symbol};
+use dcv_grammar::grammar::{Alternative, ContextFree, Production, Symbol};
 use dcv_grammar::reader::first_fault;
-use dcv_grammar::trees::{first_and_rest, next_class};
 use std::alloc::{AllocError, Global};
 use std::test::Fail;
 
@@ -86,39 +83,6 @@ fn thirty_levels_pass()
     ensures { is_predictive thirty_levels ≡ true }
 {}
 
-/// How deep an item is nested, and the tokens after it.
-#[cycle(items)]
-fn item(tokens: &[u8]) -> (u8, &[u8])
-    requires { BeginsRule lists (λ class. class) ITEM tokens.now }
-    ensures { (inner : Nodes ℕ) × ReadsRule lists (λ class. class) ITEM tokens.now inner result.1.now
-        × (result.0 ≡ depth (node ITEM inner done)) }
-{
-    let (first, rest) = first_and_rest(tokens);
-    if *first != OPEN {
-        return (1, rest);
-    }
-    let (inner, rest) = items(rest);
-    let (_close, rest) = first_and_rest(rest);
-    (inner.wrapping_add(1), rest)
-}
-
-/// How deep items are nested, and the tokens after them.
-#[cycle(items)]
-fn items(tokens: &[u8]) -> (u8, &[u8])
-    requires { BeginsRule lists (λ class. class) ITEMS tokens.now }
-    ensures { (inner : Nodes ℕ) × ReadsRule lists (λ class. class) ITEMS tokens.now inner result.1.now
-        × (result.0 ≡ depth (node ITEMS inner done)) }
-{
-    let (mut deepest, mut rest) = item(tokens);
-    'more: while next_class(rest) == Some(COMMA) {
-        let (_comma, after) = first_and_rest(rest);
-        let (depth, left) = item(after);
-        deepest = deepest.max(depth);
-        rest = left;
-    }
-    (deepest, rest)
-}
-
 /// Where the first fault of a nested list is, as `(a, (b), c)`.
 fn fault_of(alloc: Global, tokens: &[u8]) -> Result<Option<usize>, AllocError>
     ensures { IfOk result (IsVerdict lists (map (λ class. class) tokens.now)) }
@@ -131,29 +95,17 @@ fn fault_of(alloc: Global, tokens: &[u8]) -> Result<Option<usize>, AllocError>
     first_fault(alloc, &grammar, tokens)
 }
 
-/// How deep a text is nested, or where its first fault is.
-fn depth_of(alloc: Global, tokens: &[u8]) -> Result<Result<u8, usize>, AllocError>
-    ensures { IfOk result (λ read. MatchResult read
-        (λ deep. (tree : Nodes ℕ) × IsTree lists (λ class. class) tokens.now tree × (deep ≡ depth tree))
-        (λ place. IsFaultAt lists (map (λ class. class) tokens.now) place)) }
-{
-    if let Some(place) = fault_of(alloc, tokens)? {
-        return Ok(Err(place));
-    }
-    let (deep, _rest) = item(tokens);
-    Ok(Ok(deep))
-}
-
 #[test]
-fn builds_what_was_read(rt: HostRuntime) -> Result<(), Fail> {
-    assert_eq!(rt; depth_of(rt.alloc(), &[NAME])?, Ok(1));
+fn names_the_first_fault(rt: HostRuntime) -> Result<(), Fail> {
+    assert_eq!(rt; fault_of(rt.alloc(), &[NAME])?, None);
     assert_eq!(rt;
-        depth_of(
+        fault_of(
             rt.alloc(),
             &[OPEN, NAME, COMMA, OPEN, NAME, CLOSE, COMMA, NAME, CLOSE]
         )?,
-        Ok(3)
+        None
     );
-    assert_eq!(rt; depth_of(rt.alloc(), &[OPEN, NAME, CLOSE, CLOSE])?, Err(3));
+    assert_eq!(rt; fault_of(rt.alloc(), &[OPEN, NAME, CLOSE, CLOSE])?, Some(3));
+    assert_eq!(rt; fault_of(rt.alloc(), &[OPEN, NAME, COMMA, OPEN, NAME, CLOSE])?, Some(6));
     Ok(())
 }

@@ -1,4 +1,4 @@
-use Rattle.dcv_grammar.proofs.ReadingLaws.{one_tree, sentence_tree, tree_sentence}
+use Rattle.dcv_grammar.proofs.SentenceTrees.{one_tree, sentence_tree, tree_sentence}
 use Rattle.dcv_grammar.proofs.trees.one_tree.Goals as goal
 
 pub returns-clause-sentence : goal.returns-clause-sentence
