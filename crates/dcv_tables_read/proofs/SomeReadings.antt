@@ -6,7 +6,6 @@ use Rattle.std.specs.Fmt.{decimal}
 use Rattle.std.specs.List.{list_all}
 use Rattle.std.proofs.lemmas.List.{append_assoc}
 use Rattle.dcv_tokens.specs.Tokens.{is_word_byte}
-use Rattle.dcv_automaton_text.specs.Form.{IsNumber}
 use Rattle.dcv_automaton_lines.specs.Pieces.{Exactly, Nothing, Followed, Either, IsStuckIn, IsFaultAt}
 use Rattle.dcv_automaton_lines.specs.Parts.{NumberWord}
 use Rattle.dcv_automaton_lines.specs.Stops.{IsNumberEnd}
