@@ -23,15 +23,15 @@ use Rattle.dcv_tables_read.proofs.LineLists.{unique_lines, lines_stuck, some_ent
 abbrev pub opening_text : List ℕ → List ℕ → List ℕ
 opening_text integer head = text_in (opening integer head)
 
-abbrev closing_text : List ℕ
+abbrev pub closing_text : List ℕ
 closing_text = text_in closing
 
 -- so many zeros
-abbrev zeros : ℕ → List ℕ
+abbrev pub zeros : ℕ → List ℕ
 zeros zero = []
 zeros (suc count) = 0 ∷ zeros count
 
-zeros_are : (entry : Entry) (count : ℕ) → AreEntries entry count (zeros count)
+pub zeros_are : (entry : Entry) (count : ℕ) → AreEntries entry count (zeros count)
 zeros_are entry zero = record { many = refl; each = All-nil (IsEntry entry) }
 zeros_are entry (suc count) =
     let next = zeros_are entry count in
@@ -40,7 +40,7 @@ zeros_are entry (suc count) =
 pub some_array : (entry : Entry) (integer head : List ℕ) (count : ℕ) → Some (ArraySet entry integer head count)
 some_array entry integer head count = some_spelling (zeros count) (zeros_are entry count)
 
-abbrev closed : List ℕ → List ℕ
+abbrev pub closed : List ℕ → List ℕ
 closed numbers = lines_text numbers ++ closing_text
 
 pub unique_array : (entry : Entry) (integer head : List ℕ) (count : ℕ) → IsUnique (AreEntries entry count) (array_text integer head)
@@ -187,7 +187,7 @@ module _ (integer : List ℕ) (count : ℕ) (some : 0 < count) where
   nodes_spelled nodes variables highs lows of is =
       (λ i. three_text integer (sym of.variables_are i) (sym of.highs_are i) (sym of.lows_are i)) ∙ sym (nodes_are integer nodes (let many = is.many in omega (arith, some, many)))
 
-  three_from : (text : List ℕ) → AllThree text → NodesSet integer count text
+  pub three_from : (text : List ℕ) → AllThree text → NodesSet integer count text
   three_from text is =
       let highs = is.back_is in
       let lows = highs.back_is in
@@ -219,10 +219,10 @@ module _ (integer : List ℕ) (count : ℕ) (some : 0 < count) where
         whole = is.is ∙ nodes_are integer nodes (let many = is.valid_item.many in omega (arith, some, many));
       }
 
-  three_stuck : {text left : List ℕ} → IsStuckIn AllThree text left → IsStuckIn (NodesSet integer count) text left
+  pub three_stuck : {text left : List ℕ} → IsStuckIn AllThree text left → IsStuckIn (NodesSet integer count) text left
   three_stuck stuck = stuck_same three_from three_into stuck
 
-  some_highs : Some HighsAfter
+  pub some_highs : Some HighsAfter
   some_highs = some_then (zeros count) (zeros_are Number count) (some_array Number integer low_head count)
 
   pub in_variables : {text left : List ℕ} → IsStuckIn (ArraySet Number char_type variable_head count) text left → IsStuckIn (NodesSet integer count) text left
@@ -341,7 +341,7 @@ module _ (integer : List ℕ) (count : ℕ) where
   states_spelled states rows accepts of a =
       (λ i. rows_text integer (sym of.rows_are i) ++ accepts_text (sym (numbers_are states accepts a.each of.accepts_are) i)) ∙ sym (states_are integer states)
 
-  both_from : (text : List ℕ) → BothArrays text → StatesSet integer count text
+  pub both_from : (text : List ℕ) → BothArrays text → StatesSet integer count text
   both_from text is =
       let accepts = is.back_is in
       let of = state_list_is is.item accepts.item (accepts.valid_item.many ∙ sym is.valid_item.many) in
@@ -363,7 +363,7 @@ module _ (integer : List ℕ) (count : ℕ) where
         whole = is.is ∙ states_are integer states;
       }
 
-  both_stuck : {text left : List ℕ} → IsStuckIn BothArrays text left → IsStuckIn (StatesSet integer count) text left
+  pub both_stuck : {text left : List ℕ} → IsStuckIn BothArrays text left → IsStuckIn (StatesSet integer count) text left
   both_stuck stuck = stuck_same both_from both_into stuck
 
   pub in_rows : {text left : List ℕ} → IsStuckIn (ArraySet Number integer row_head count) text left → IsStuckIn (StatesSet integer count) text left

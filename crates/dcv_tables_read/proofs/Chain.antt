@@ -59,7 +59,7 @@ module _ {X : Type 0} {valid : X → Type 0} {spelled : X → List ℕ} {Q : X �
       })
       stuck
 
-  leads_next : IsUnique valid spelled → (x : X) → valid x → Leads (Then valid spelled Q) (spelled x) (Q x)
+  pub leads_next : IsUnique valid spelled → (x : X) → valid x → Leads (Then valid spelled Q) (spelled x) (Q x)
   leads_next unique x is =
       record {
         into = λ rest back_is. record { item = x; valid_item = is; back = rest; back_is = back_is; whole = refl };

@@ -28,5 +28,7 @@ mod KeptRules
 mod ReadBack
 -- a text spells one unit, and has one fault at most
 mod OneFault
+-- and each has a fault, or is read
+mod SomeReadings
 -- worked units
 pub mod ReadExamples

@@ -34,13 +34,13 @@ unique_entry entry x y a b x_is y_is same = unique_ended 44 refl x y a b (entry_
 -- ---- its line
 
 -- with the two bytes before it
-abbrev led : ℕ → List ℕ
+abbrev pub led : ℕ → List ℕ
 led number = codes "  " ++ ended 44 number
 
-line_is : (number : ℕ) → led number ++ codes "\n" ≡ line_text number
+pub line_is : (number : ℕ) → led number ++ codes "\n" ≡ line_text number
 line_is number = ap (λ t. codes "  " ++ t) (append_assoc (decimal number) (44 ∷ []) (codes "\n"))
 
-unique_led : (entry : Entry) → IsUnique (IsEntry entry) led
+pub unique_led : (entry : Entry) → IsUnique (IsEntry entry) led
 unique_led entry = unique_lead (ended 44) (codes "  ") (unique_entry entry)
 
 pub unique_line : (entry : Entry) → IsUnique (IsEntry entry) line_text
@@ -62,7 +62,7 @@ in_feed entry number is whole next stuck =
 
 -- ---- so many lines
 
-some_lines : (entry : Entry) (count : ℕ) → Some (LinesOf entry count)
+pub some_lines : (entry : Entry) (count : ℕ) → Some (LinesOf entry count)
 some_lines entry zero = record { text = []; is = record { is = refl } }
 some_lines entry (suc count) =
     let next = some_lines entry count in
@@ -96,7 +96,7 @@ unique_lines entry count (x ∷ xs) (y ∷ ys) a b x_is y_is same =
     (same_behind (line_text x) (line_text y) (ap line_text first) here) in
     λ i. first i ∷ rest i
 
-lines_from : (entry : Entry) (count : ℕ) (text : List ℕ) → LinesOf entry count text → Spellings (AreEntries entry count) lines_text text
+pub lines_from : (entry : Entry) (count : ℕ) (text : List ℕ) → LinesOf entry count text → Spellings (AreEntries entry count) lines_text text
 lines_from entry zero text is = record { item = []; valid_item = record { many = refl; each = All-nil (IsEntry entry) }; is = is.is }
 lines_from entry (suc count) text is =
     let rest = lines_from entry count is.back is.back_is in
@@ -165,10 +165,10 @@ module _ {entry : Entry} {count : ℕ} {text rest numbers : List ℕ} (so_far : 
 
 -- ---- 0 or 1
 
-one_is : decimal 1 ≡ codes "1"
+pub one_is : decimal 1 ≡ codes "1"
 one_is = decimal_digit 1 (omega arith)
 
-nil_is : decimal 0 ≡ codes "0"
+pub nil_is : decimal 0 ≡ codes "0"
 nil_is = decimal_digit 0 (omega arith)
 
 pub one_read : {text rest : List ℕ} → text ≡ codes "1," ++ rest → text ≡ ended 44 1 ++ rest
@@ -182,7 +182,7 @@ answer_of zero small text is = record { which = inl (record { is = is ∙ ap (λ
 answer_of (suc zero) small text is = record { which = inr (record { is = is ∙ ap (λ d. d ++ 44 ∷ []) one_is }) }
 answer_of (suc (suc number)) small text is = absurd (omega arith)
 
-answer_stuck : {text left : List ℕ} → IsStuckIn (Either (Exactly (codes "0,")) (Exactly (codes "1,"))) text left → IsStuckIn (EntrySet Answer) text left
+pub answer_stuck : {text left : List ℕ} → IsStuckIn (Either (Exactly (codes "0,")) (Exactly (codes "1,"))) text left → IsStuckIn (EntrySet Answer) text left
 answer_stuck stuck =
     stuck_same
     (λ text is. elim is.which [

@@ -59,7 +59,7 @@ word_is size text some within bytes =
     positive zero some is = absurd (some refl)
     positive (suc size) some is = omega (arith, is)
 
-stuck_at_once : (behind text : List ℕ) → IsAfterWord text → IsStuckIn (NameSet behind) text text
+pub stuck_at_once : (behind text : List ℕ) → IsAfterWord text → IsStuckIn (NameSet behind) text text
 stuck_at_once behind text stops =
     record {
       front = [];
@@ -124,17 +124,17 @@ after_some (suc more) some = refl
 pub after_none : (more : ℕ) → more ≡ 0 → codes ")\n{\n" ≡ after_name more
 after_none more none = ap after_name (sym none)
 
-stops : (more : ℕ) → StopsNames (after_name more)
+pub stops : (more : ℕ) → StopsNames (after_name more)
 stops zero = refl
 stops (suc more) = refl
 
 abbrev with_end : ℕ → List ℕ → List ℕ
 with_end more name = name ++ after_name more
 
-unique_next : (more : ℕ) → IsUnique IsNameWord (with_end more)
+pub unique_next : (more : ℕ) → IsUnique IsNameWord (with_end more)
 unique_next more = unique_name (after_name more) (stops more)
 
-some_names : (count : ℕ) → Some (NamesOf count)
+pub some_names : (count : ℕ) → Some (NamesOf count)
 some_names zero = record { text = []; is = record { is = refl } }
 some_names (suc count) =
     let next = some_names count in
@@ -155,7 +155,7 @@ unique_names count (x ∷ xs) (y ∷ ys) a b x_is y_is same =
     (same_behind (with_end (length xs) x) (with_end (length xs) y) (ap (with_end (length xs)) first) here) in
     λ i. first i ∷ rest i
 
-names_from : (count : ℕ) (text : List ℕ) → NamesOf count text → Spellings (AreNames count) names_text text
+pub names_from : (count : ℕ) (text : List ℕ) → NamesOf count text → Spellings (AreNames count) names_text text
 names_from zero text is = record { item = []; valid_item = record { many = refl; each = All-nil IsNameWord }; is = is.is }
 names_from (suc count) text is =
     let rest = names_from count is.back is.back_is in

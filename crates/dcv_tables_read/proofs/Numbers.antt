@@ -42,7 +42,7 @@ unique_ended end no_digit x y a b x_is y_is same =
 
 -- ---- counts
 
-zero_is : IsNumber 0
+pub zero_is : IsNumber 0
 zero_is = omega arith
 
 pub lead_stuck : (lead : List ℕ) (end : ℕ) {text left : List ℕ} → IsStuckIn (Exactly lead) text left → IsStuckIn (CountSet lead end) text left
@@ -64,7 +64,7 @@ nodes_count = count_text (codes " nodes = ") 44
 abbrev variables_count : ℕ → List ℕ
 variables_count = count_text (codes " variables = ") 32
 
-abbrev counts_end : List ℕ
+abbrev pub counts_end : List ℕ
 counts_end = codes "};\n\n"
 
 abbrev pub LastCount : List ℕ → Type 0
@@ -125,10 +125,10 @@ counts_stuck stuck =
     })
     stuck
 
-some_last : Some LastCount
+pub some_last : Some LastCount
 some_last = some_then 0 zero_is (record { text = counts_end; is = record { is = refl } })
 
-some_later : Some LaterCounts
+pub some_later : Some LaterCounts
 some_later = some_then 0 zero_is some_last
 
 pub in_states : {text left : List ℕ} → IsStuckIn (CountSet (codes "enum { states = ") 44) text left → IsStuckIn CountsSet text left

@@ -19,7 +19,7 @@ use Rattle.dcv_tables_read.proofs.NameLists.{p_is, names_stuck, unique_names}
 
 -- ---- the parameters
 
-abbrev int_v : List ℕ
+abbrev pub int_v : List ℕ
 int_v = codes "int v_"
 
 -- as many names
@@ -69,7 +69,7 @@ in_void count none stuck =
     nothing (name ∷ names) same = absurd (omega (arith, same))
 
 module _ (count : ℕ) (some : 0 < count) where
-  led_is : (names : List (List ℕ)) → AreNames count names → int_v ++ names_text names ≡ parameters_text names
+  pub led_is : (names : List (List ℕ)) → AreNames count names → int_v ++ names_text names ≡ parameters_text names
   led_is names is = parameters_are names (let many = is.many in omega (arith, some, many))
 
   pub in_first : {text left : List ℕ} → IsStuckIn (Exactly int_v) text left → IsStuckIn (ParametersSet count) text left

@@ -97,7 +97,7 @@ names_of (parameter ∷ parameters) all =
     let rest = names_of parameters (All-tail IsParameter parameter parameters all) in
     record { names = first.name ∷ rest.names; each = All-cons IsNameWord first.name rest.names first.word rest.each; are = λ i. first.is i ∷ rest.are i }
 
-unit_from : (text : List ℕ) → UnitSet text → Form text
+pub unit_from : (text : List ℕ) → UnitSet text → Form text
 unit_from text is =
     let nodes = is.back_is in
     let states = nodes.back_is in
@@ -145,16 +145,16 @@ unit_into text (tables, form) =
 
 -- ---- stuck in a part
 
-unit_stuck : {text left : List ℕ} → IsStuckIn UnitSet text left → IsStuckIn Form text left
+pub unit_stuck : {text left : List ℕ} → IsStuckIn UnitSet text left → IsStuckIn Form text left
 unit_stuck stuck = stuck_same unit_from unit_into stuck
 
-some_step : (counts : CountsValue) → Some (StepSet (integer_of counts) (nat_lt 0 counts.nodes) counts.variables)
+pub some_step : (counts : CountsValue) → Some (StepSet (integer_of counts) (nat_lt 0 counts.nodes) counts.variables)
 some_step counts = some_spelling (ps counts.variables) (ps_are counts.variables)
 
-some_after_nodes : (counts : CountsValue) → Some (AfterNodes counts)
+pub some_after_nodes : (counts : CountsValue) → Some (AfterNodes counts)
 some_after_nodes counts = let (states, are) = some_states counts.states in some_then states are (some_step counts)
 
-some_after_counts : (counts : CountsValue) → Some (AfterCounts counts)
+pub some_after_counts : (counts : CountsValue) → Some (AfterCounts counts)
 some_after_counts counts = let (nodes, are) = some_nodes counts.nodes in some_then nodes are (some_after_nodes counts)
 
 pub in_counts : {text left : List ℕ} → IsStuckIn CountsSet text left → IsStuckIn Form text left
