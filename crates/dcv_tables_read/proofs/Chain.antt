@@ -213,10 +213,3 @@ module _ {T : Type 0} (P : List ℕ → Type 0) (text : List ℕ) where
       → ((left : List ℕ) → IsStuckIn Q rest left → IsStuckIn P text left) → IsStuckBy Q rest stop → IsStuckStop P text result
   stop_passes Q rest result (Syntax stuck) is over here = stops result stuck is (over stuck.left.now here)
   stop_passes Q rest result Memory is over here = no_memory result is
-
-  -- what a call answers is handed on
-  pub stop_carried : (Q : List ℕ → Type 0) (rest : List ℕ) (result : Result T Stop) → ((left : List ℕ) → IsStuckIn Q rest left → IsStuckIn P text left)
-      → IsStuckStop Q rest result → IsStuckStop P text result
-  stop_carried Q rest (Ok read) over is = tt
-  stop_carried Q rest (Err (Syntax stuck)) over is = over stuck.left.now is
-  stop_carried Q rest (Err Memory) over is = tt

@@ -117,13 +117,6 @@ name_end_stuck behind word rest left text ends word_is after whole stuck =
 
 -- ---- so many names
 
-pub after_some : (more : ℕ) → (more ≡ 0 → ⊥) → codes ", int v_" ≡ after_name more
-after_some zero some = absurd (some refl)
-after_some (suc more) some = refl
-
-pub after_none : (more : ℕ) → more ≡ 0 → codes ")\n{\n" ≡ after_name more
-after_none more none = ap after_name (sym none)
-
 pub stops : (more : ℕ) → StopsNames (after_name more)
 stops zero = refl
 stops (suc more) = refl

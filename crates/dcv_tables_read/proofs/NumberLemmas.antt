@@ -16,11 +16,6 @@ use Rattle.dcv_tables_read.specs.declared.unit.TableUnit.{TableUnit}
 use Rattle.dcv_tables_read.specs.Seen.{seen_node, seen_state, seen_tables}
 use Rattle.dcv_tables_read.specs.Judged.{IsJudged, judged_from, lines_of}
 
--- ---- a line
-
-pub line_size : (number : ℕ) → length (text_in (number_line number)) ≡ length (decimal number) + 4
-line_size number = omega (arith, length-append (decimal number) (codes ",\n"))
-
 -- ---- the first word
 
 module _ (word : Token) (keeps : Bool) (words : List Token) (also : List Bool) where
