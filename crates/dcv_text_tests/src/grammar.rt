@@ -106,6 +106,9 @@ fn names_the_first_fault(rt: HostRuntime) -> Result<(), Fail> {
         None
     );
     assert_eq!(rt; fault_of(rt.alloc(), &[OPEN, NAME, CLOSE, CLOSE])?, Some(3));
-    assert_eq!(rt; fault_of(rt.alloc(), &[OPEN, NAME, COMMA, OPEN, NAME, CLOSE])?, Some(6));
+    assert_eq!(rt;
+        fault_of(rt.alloc(), &[OPEN, NAME, COMMA, OPEN, NAME, CLOSE])?,
+        Some(6)
+    );
     Ok(())
 }
