@@ -1,4 +1,4 @@
-use Rattle.dcv_cli.proofs.Common.{refl, ◌∙◌, err_from_is_err_and, status_of_verdict}
+use Rattle.dcv_cli.proofs.Common.{refl, rules, ◌∙◌, err_from_is_err_and, status_of_verdict}
 use Rattle.dcv_cli.proofs.Outcomes.{answer_of_verdict, answers_over, answers_report}
 use Rattle.dcv_cli.proofs.ThreeEnds.{answers_reply}
 use Rattle.dcv_cli.proofs.report.print.Goals as goal
@@ -18,3 +18,8 @@ returns g c text file is =
     answers_reply _ _ _ (status_of_verdict report.verdict) report.text
     (answers_report c.args.kind c.args.limits file c.names.result.now c.in_ok-built.built report (c.names.ensures ∙ is.names) (c.in_ok-built.ensures.built text file is) c.in_ok-report.ensures)
     (answer_of_verdict report.verdict) _ refl _ c.send_report.ensures
+
+pub returns-in_err-report : goal.returns-in_err-report
+returns-in_err-report g c text file is =
+    let p = err_from_is_err_and c.from_residual-in_err-report.result c.from_residual-in_err-report.ensures.1 in
+    rw (p.1, p.2) (search rules)
