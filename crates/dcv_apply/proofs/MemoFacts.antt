@@ -125,6 +125,17 @@ module _ {K : Type 0} (equal : K → K → Bool) (as_entry : K × Ref → EntryV
   insert_result (Ok x) old new key root is unchanged one c = insert_adds old key root one (subst (λ entries. Contains (map as_entry entries) one) is c)
   insert_result (Err e) old new key root is unchanged one c = inl (subst (λ entries. Contains (map as_entry entries) one) unchanged c)
 
+-- where a list has what it had, and one thing more at most, so have the entries of it
+pub added_entries : {X : Type 0} (as_entry : X → EntryValue) (old new : List X) (added : X)
+    → ((one : X) → Contains new one → Contains old one ⊎ (one ≡ added))
+    → (one : EntryValue) → Contains (map as_entry new) one → Contains (map as_entry old) one ⊎ (one ≡ as_entry added)
+added_entries as_entry old new added cases one c =
+    let from = Contains-map_cases as_entry new one c in
+    elim (cases from.0 from.1) [
+      | inl was ↦ inl (subst (Contains (map as_entry old)) from.2 (Contains-map as_entry old from.0 was))
+      | inr own ↦ inr (sym from.2 ∙ ap as_entry own)
+    ]
+
 -- ---- the entries of one collection and then those of others
 
 pub found_in : (first later : List EntryValue) (operands : Ref → EntryValue) (found : Option Ref)

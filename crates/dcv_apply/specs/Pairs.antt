@@ -2,8 +2,7 @@
 --     plain operand             the operand with the place 0 or 1, and 0 for a leaf, which is the same in both arenas
 --     operand_at kind number    the operand of a kind that has a number
 --     pair_operands pair        the two operands as a list
---     word_of_pair pair         the round and the two operands as one number, for their hash
-use Rattle.std.specs.Prelude.{ℕ, ◌+◌, ◌*◌, ◌^◌, ◌==◌, if◌then◌else◌, List, [], ◌∷◌}
+use Rattle.std.specs.Prelude.{ℕ, ◌==◌, if◌then◌else◌, List, [], ◌∷◌}
 use Rattle.dcv_arena.specs.declared.nodes.Ref.{Ref}
 use Rattle.dcv_arena.specs.declared.nodes.Ref.TheVariants.{Leaf, Place}
 use Rattle.dcv_apply.specs.declared.keys.Pair.{Pair}
@@ -29,6 +28,3 @@ abbrev pub code_of : Kind → ℕ
 code_of kind.Leaf = 0
 code_of kind.First = 1
 code_of kind.Second = 2
-
-abbrev pub word_of_pair : Pair → ℕ
-word_of_pair pair = pair.one + pair.other * 2 ^ 32 + (code_of pair.one_kind + code_of pair.other_kind * 4 + pair.round * 16) * 2 ^ 64

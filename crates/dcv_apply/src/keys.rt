@@ -3,7 +3,7 @@
 ghost use Rattle.std.specs.Prelude.{◌≡◌, [], ◌∷◌, map, IfSome};
 ghost use Rattle.dcv_apply.specs.Remembered.{entry_of, entry_of_pair};
 ghost use Rattle.dcv_arena.specs.declared.nodes.Ref.{Ref as AnyRef};
-ghost use Rattle.dcv_apply.specs.Pairs.{operand_at, pair_operands, plain, word_of_pair};
+ghost use Rattle.dcv_apply.specs.Pairs.{operand_at, pair_operands, plain};
 
 use crate::operands::{IN_PLACE, Kind, Operand, Operands, told};
 use dcv_arena::Ref;
@@ -24,20 +24,6 @@ pub(crate) struct Pair {
     one_kind: Kind,
     // those of the second
     other_kind: Kind,
-}
-
-impl Hash for Pair {
-    ghost use Rattle.std.proofs.Common.{rules};
-    ghost use Rattle.std.specs.Hash as fed;
-    ghost use Rattle.std.specs.Cmp.Rules.{hashing};
-
-    ghost hash_input = { λ pair. fed.u128 (word_of_pair pair) };
-
-    ghost respects_eq = { Prim.search (hashing, rules) };
-
-    fn hash<H: Hasher>(&self, state: &mut H) {
-        state.write_u128(self.word());
-    }
 }
 
 impl Pair {
@@ -90,14 +76,14 @@ impl Pair {
         self.other_kind.operand(self.other)
     }
 
-    // The round and the operands as one number.
+    // A number that spreads pairs over an index. That decides the time alone, so no clause says which it is.
     #[inline(always)]
-    fn word(self) -> u128
-        ensures { result ≡ word_of_pair self }
-    {
-        let numbers = u128::from(self.one) + u128::from(self.other) * 0x1_0000_0000;
-        let kinds = u128::from(self.one_kind.code()) + u128::from(self.other_kind.code()) * 4;
-        numbers + (kinds + u128::from(self.round) * 16) * 0x1_0000_0000_0000_0000
+    pub(crate) fn digest(self) -> u32 {
+        let numbers = u64::from(self.one) | u64::from(self.other) << 32;
+        let kinds = self.one_kind.code() | self.other_kind.code() << 2;
+        let rest = (u64::from(self.round) << 4 | kinds).wrapping_mul(GOLDEN_RATIO);
+        let mixed = (numbers ^ rest).wrapping_mul(GOLDEN_RATIO);
+        (mixed >> 32) as u32
     }
 
     // The same as a key of any number of operands.

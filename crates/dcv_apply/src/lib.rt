@@ -16,6 +16,7 @@ mod keys;
 mod memo;
 mod merging;
 mod operands;
+mod table;
 mod visits;
 
 pub use faults::{ApplyFault, MergeFault};

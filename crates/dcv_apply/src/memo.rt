@@ -10,6 +10,7 @@ ghost use Rattle.dcv_apply.specs.Pairs.{pair_operands};
 
 use crate::cache::Cache;
 use crate::keys::{Key, Pair};
+use crate::table::Table;
 use dcv_arena::Ref;
 use indexmap::IndexMap;
 use std::alloc::{AllocError, Global};
@@ -17,25 +18,12 @@ use std::marker::Model;
 use std::mem::swap;
 use std::num::NonZeroUsize;
 
-// For so many entries a map has room from the first on, which most operations never fill: growing step by step to there would take
-// more time than they do.
-const FIRST_ROOM: usize = 72;
-
 /// The capacity of a memo where its caller asks for no other. An exploration takes such a memo, and so does a proposition whose operands are
 /// joined. It is a bound alone: a memo grows with its entries.
 pub const USUAL_CAPACITY: usize = 65_536;
 
 // How many operands the lists of the map of other numbers of operands may have together before they are forgotten: 16 bytes each.
 const MOST_OPERANDS: usize = 2_097_152;
-
-// Makes room for the first entries of a map that will have so many at most, unless memory runs out.
-fn make_first_room(pairs: &mut IndexMap<Pair, Ref>, most: usize)
-    ensures { pairs.new.entries ≡ pairs.old.entries }
-{
-    if pairs.is_empty() {
-        drop(pairs.reserve(FIRST_ROOM.min(most)));
-    }
-}
 
 /// What operations remember: for a round and operands, the ref that they were merged into.
 ///
@@ -47,9 +35,9 @@ fn make_first_room(pairs: &mut IndexMap<Pair, Ref>, most: usize)
 #[derive(Drop)]
 pub struct Memo {
     // results for pairs, of the younger generation
-    younger: IndexMap<Pair, Ref>,
+    younger: Table,
     // those of the generation before, which are forgotten with the next
-    older: IndexMap<Pair, Ref>,
+    older: Table,
     // results for other numbers of operands: the first that came, while there is room
     first: IndexMap<Key, Ref>,
     // How many operands the keys of `first` have together.
@@ -68,11 +56,11 @@ impl Model for Memo {
     ghost Value = { MemoValue };
 
     ghost view = { λ memo. record {
-      entries = map entry_of_pair memo.younger.entries ++ (map entry_of_pair memo.older.entries ++ (map entry_of memo.first.entries ++ map entry_of memo.later.entries));
+      entries = map entry_of_pair memo.younger.entries.items ++ (map entry_of_pair memo.older.entries.items ++ (map entry_of memo.first.entries ++ map entry_of memo.later.entries));
       capacity = memo.room + memo.later.cap;
     } };
 
-    ghost invariant = { λ memo. (length memo.younger.entries + length memo.older.entries + length memo.first.entries ≤ memo.room) × (memo.room + memo.later.cap < 2 ^ 64) };
+    ghost invariant = { λ memo. (length memo.younger.entries.items + length memo.older.entries.items + length memo.first.entries ≤ memo.room) × (memo.room + memo.later.cap < 2 ^ 64) };
 }
 
 impl Memo {
@@ -85,8 +73,8 @@ impl Memo {
     {
         let rest = (capacity / 8).max(1);
         Ok(Memo {
-            younger: IndexMap::new(alloc),
-            older: IndexMap::new(alloc),
+            younger: Table::new(alloc),
+            older: Table::new(alloc),
             first: IndexMap::new(alloc),
             operands: 0,
             room: capacity - rest,
@@ -116,14 +104,14 @@ impl Memo {
         ensures kept { KeepsEntries self.old self.new }
         ensures capacity { self.new.capacity ≡ self.old.capacity }
     {
-        let young = self.younger.get(pair).copied();
+        let young = self.younger.get(*pair);
         if young.is_some() {
             return young;
         }
         if self.older.is_empty() && self.later.is_empty() {
             return None;
         }
-        let old = self.older.get(pair).copied();
+        let old = self.older.get(*pair);
         if old.is_some() || self.later.is_empty() {
             return old;
         }
@@ -167,8 +155,7 @@ impl Memo {
         ensures capacity { self.new.capacity ≡ self.old.capacity }
     {
         if self.younger.len() + self.older.len() + self.first.len() < self.room {
-            make_first_room(&mut self.younger, self.room);
-            drop(self.younger.insert(pair, root));
+            self.younger.add(pair, root);
         } else {
             let alloc = *self.first.allocator();
             drop(self.later.put(alloc, pair.key(alloc), root));

@@ -3,7 +3,7 @@
 // that has more than one slot to go (see `visits.rt`); what is not kept, or is forgotten, is merged again. There is one recursion, over
 // whatever form the operands of a visit have: a build of its own for two operands moves 16 bytes from visit to visit, and takes no memory
 // but for what it adds to the memo and the arena.
-ghost use Rattle.std.specs.Prelude.{◌≡◌, ◌≢◌, ◌≤◌, ◌<◌, ◌+◌, ℕ, List, Bool, Err, Ok, length, IfOk};
+ghost use Rattle.std.specs.Prelude.{◌≡◌, ◌≢◌, ◌≤◌, ◌<◌, ◌+◌, ℕ, List, [], ◌∷◌, Bool, Err, Ok, length, IfOk};
 ghost use Rattle.std.specs.List.{All};
 ghost use Rattle.dcv_arena.specs.Arena.{IsRef, IsArena, level_of, KeepsRefs};
 ghost use Rattle.dcv_apply.specs.Operands.{IsOperand, numbers_at, numbers_at_both};
@@ -179,6 +179,31 @@ impl Operation<'_> {
             .merged(self.alloc, self.last_slot, operands, slots)
     }
 
+    // The number that two operands' numbers are merged into at each letter of so many slots, where they depend on none of them.
+    #[inline(always)]
+    pub(crate) fn leaf_of_two<G: Merge>(
+        &self,
+        one: Operand,
+        other: Operand,
+        slots: u8,
+        merge: &mut G,
+    ) -> Result<u32, MergeFault>
+        requires bound { slots ≤ 32 }
+        requires one { IsFrom self.now.sources slots one }
+        requires other { IsFrom self.now.sources slots other }
+        requires may { (letter : List Bool) → length letter ≡ slots → G.may merge.old (merged_by self.now (one ∷ other ∷ []) letter) }
+        ensures gives { IfOk result (λ number. (letter : List Bool) → length letter ≡ slots
+            → G.gives merge.new (merged_by self.now (one ∷ other ∷ []) letter) number) }
+        ensures full { (limit : ℕ) → result ≡ Err (MergeStates limit) → G.full merge.new limit }
+        ensures goes_on { GoesOn G.may G.gives G.becomes merge.old merge.new }
+    {
+        let sources = &self.sources;
+        match self.last_slot {
+            LastSlot::Kept => merge.leaf(&sources.two(one, other, slots)),
+            LastSlot::Merged => merge.leaf(&sources.two_at_both(one, other, slots)),
+        }
+    }
+
     // The leaf of what the operands' numbers are merged into, where they depend on no slot.
     #[inline(never)]
     fn merge_numbers<G: Merge, V: Visit>(
@@ -197,8 +222,7 @@ impl Operation<'_> {
         ensures states { (limit : ℕ) → result ≡ Err (States limit) → G.full merge.new limit }
         ensures goes_on { GoesOn G.may G.gives G.becomes merge.old merge.new }
     {
-        let numbers = visit.numbers(self, arena.slots())?;
-        Ok(arena.leaf(merge.leaf(&numbers)?))
+        Ok(arena.leaf(visit.leaf(self, arena.slots(), merge)?))
     }
 
     // The merge of operands that depend on no slot before `from`. The code is put into `merge_sides`, so that a visit that ends at a leaf

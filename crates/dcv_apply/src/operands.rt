@@ -197,6 +197,34 @@ impl Sources<'_> {
         }
     }
 
+    // The numbers of two such operands.
+    #[inline(always)]
+    pub(crate) fn two(&self, one: Operand, other: Operand, slots: u8) -> [u32; 2]
+        requires one { IsFrom self.now slots one }
+        requires other { IsFrom self.now slots other }
+        ensures { (letter : List Bool) → length letter ≤ slots → result ≡ numbers_in self.now (one ∷ other ∷ []) letter }
+    {
+        [self.number(one, slots), self.number(other, slots)]
+    }
+
+    // The numbers of two such operands where the slot after a letter of so many slots is false, and then those where it is true.
+    pub(crate) fn two_at_both(&self, one: Operand, other: Operand, slots: u8) -> [u32; 4]
+        requires bound { slots ≤ 32 }
+        requires one { IsFrom self.now slots one }
+        requires other { IsFrom self.now slots other }
+        ensures { (letter : List Bool) → length letter ≡ slots → result
+            ≡ numbers_in self.now (one ∷ other ∷ []) (letter ++ false ∷ []) ++ numbers_in self.now (one ∷ other ∷ []) (letter ++ true ∷ []) }
+    {
+        let (one_lo, one_hi) = self.parts(one, slots);
+        let (other_lo, other_hi) = self.parts(other, slots);
+        [
+            self.number(one_lo, slots + 1),
+            self.number(other_lo, slots + 1),
+            self.number(one_hi, slots + 1),
+            self.number(other_hi, slots + 1),
+        ]
+    }
+
     // Adds the numbers of such operands.
     fn push_numbers(
         &self,

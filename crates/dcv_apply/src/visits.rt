@@ -1,15 +1,18 @@
 // What is visited while functions are merged: operands that are followed together, in the form in which a memo has them. Two, as most
 // visits have, are copied from visit to visit and take no memory of their own; any other number of them stand in a list.
-ghost use Rattle.std.specs.Prelude.{◌≡◌, ◌≤◌, ◌<◌, ℕ, List, Bool, length, false, true, IfOk, IfSome, Contains};
+ghost use Rattle.std.specs.Prelude.{◌≡◌, ◌≤◌, ◌<◌, ℕ, List, Bool, Err, length, false, true, IfOk, IfSome, Contains};
 ghost use Rattle.std.specs.List.{All};
 ghost use Rattle.dcv_arena.specs.declared.nodes.Ref.{Ref as AnyRef};
 ghost use Rattle.dcv_apply.specs.Sources.{IsIn, IsFrom, IsSide, merged_by};
+ghost use Rattle.dcv_apply.specs.Merged.{GoesOn};
 ghost use Rattle.dcv_apply.specs.Remembered.{entry, KeepsEntries, Adds};
+ghost use Rattle.dcv_apply.specs.declared.faults.MergeFault.TheVariants.{States};
 
+use crate::faults::MergeFault;
 use crate::keys::{Key, Pair};
 use crate::memo::Memo;
-use crate::merging::Operation;
-use crate::operands::{Numbers, Sources};
+use crate::merging::{Merge, Operation};
+use crate::operands::Sources;
 use dcv_arena::Ref;
 use std::alloc::AllocError;
 
@@ -59,12 +62,20 @@ pub(crate) trait Visit: Drop {
         ensures when_false { IfOk result (λ sides. IsSide operation.now (operands self.now) slot false (round sides.0) (operands sides.0)) }
         ensures when_true { IfOk result (λ sides. IsSide operation.now (operands self.now) slot true (round sides.1) (operands sides.1)) };
 
-    // The numbers that are merged at each letter of so many slots, where the operands depend on none of them.
-    fn numbers(&self, operation: &Operation<'_>, slots: u8) -> Result<Numbers, AllocError>
+    // The number that the operands' numbers are merged into at each letter of so many slots, where they depend on none of them.
+    fn leaf<G: Merge>(
+        &self,
+        operation: &Operation<'_>,
+        slots: u8,
+        merge: &mut G,
+    ) -> Result<u32, MergeFault>
         requires bound { slots ≤ 32 }
         requires operands { All (IsFrom operation.now.sources slots) (operands self.now) }
-        ensures { IfOk result (λ numbers. (letter : List Bool) → length letter ≡ slots
-            → numbers.items ≡ merged_by operation.now (operands self.now) letter) };
+        requires may { (letter : List Bool) → length letter ≡ slots → G.may merge.old (merged_by operation.now (operands self.now) letter) }
+        ensures gives { IfOk result (λ number. (letter : List Bool) → length letter ≡ slots
+            → G.gives merge.new (merged_by operation.now (operands self.now) letter) number) }
+        ensures full { (limit : ℕ) → result ≡ Err (States limit) → G.full merge.new limit }
+        ensures goes_on { GoesOn G.may G.gives G.becomes merge.old merge.new };
 
     // The ref that is remembered.
     fn remembered(&self, memo: &mut Memo, left: SlotsLeft) -> Option<Ref>
@@ -100,8 +111,14 @@ impl Visit for Pair {
         Ok((when_false, when_true))
     }
 
-    fn numbers(&self, operation: &Operation<'_>, slots: u8) -> Result<Numbers, AllocError> {
-        operation.numbers(&[self.one(), self.other()], slots)
+    #[inline(always)]
+    fn leaf<G: Merge>(
+        &self,
+        operation: &Operation<'_>,
+        slots: u8,
+        merge: &mut G,
+    ) -> Result<u32, MergeFault> {
+        operation.leaf_of_two(self.one(), self.other(), slots, merge)
     }
 
     #[inline(always)]
@@ -134,8 +151,14 @@ impl Visit for Key {
         ))
     }
 
-    fn numbers(&self, operation: &Operation<'_>, slots: u8) -> Result<Numbers, AllocError> {
-        operation.numbers(&self.operands, slots)
+    fn leaf<G: Merge>(
+        &self,
+        operation: &Operation<'_>,
+        slots: u8,
+        merge: &mut G,
+    ) -> Result<u32, MergeFault> {
+        let numbers = operation.numbers(&self.operands, slots)?;
+        merge.leaf(&numbers)
     }
 
     fn remembered(&self, memo: &mut Memo, left: SlotsLeft) -> Option<Ref> {

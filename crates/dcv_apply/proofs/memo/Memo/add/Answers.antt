@@ -8,8 +8,8 @@ use Rattle.dcv_apply.proofs.memo.Memo.add.Goals as goal
 pub returns-then-len-self-clause-adds : goal.returns-then-len-self-clause-adds
 returns-then-len-self-clause-adds c one there =
     let Added : EntryValue → Type 0 = λ one. one ≡ entry c.args.key.round c.args.key.operands.items c.args.root in
-    let young = map entry_of_pair c.self.inside.younger.entries in
-    let old = map entry_of_pair c.self.inside.older.entries in
+    let young = map entry_of_pair c.self.inside.younger.entries.items in
+    let old = map entry_of_pair c.self.inside.older.entries.items in
     let first = map entry_of c.self.inside.first.entries in
     let later = map entry_of c.self.inside.later.entries in
     subst (λ (memo : MemoValue). Contains memo.entries one ⊎ Added one) c.self.view_is
@@ -20,8 +20,8 @@ returns-then-len-self-clause-adds c one there =
 pub returns-else-len-self-clause-adds : goal.returns-else-len-self-clause-adds
 returns-else-len-self-clause-adds c one there =
     let Added : EntryValue → Type 0 = λ one. one ≡ entry c.args.key.round c.args.key.operands.items c.args.root in
-    let young = map entry_of_pair c.self.inside.younger.entries in
-    let old = map entry_of_pair c.self.inside.older.entries in
+    let young = map entry_of_pair c.self.inside.younger.entries.items in
+    let old = map entry_of_pair c.self.inside.older.entries.items in
     let first = map entry_of c.self.inside.first.entries in
     let later = map entry_of c.self.inside.later.entries in
     subst (λ (memo : MemoValue). Contains memo.entries one ⊎ Added one) c.self.view_is

@@ -9,8 +9,8 @@ use Rattle.dcv_apply.proofs.memo.Memo.forget_lists.Goals as goal
 
 pub returns-then-self-gt-MOST_OPERANDS-clause-kept : goal.returns-then-self-gt-MOST_OPERANDS-clause-kept
 returns-then-self-gt-MOST_OPERANDS-clause-kept c one there =
-    let young = map entry_of_pair c.self.inside.younger.entries in
-    let old = map entry_of_pair c.self.inside.older.entries in
+    let young = map entry_of_pair c.self.inside.younger.entries.items in
+    let old = map entry_of_pair c.self.inside.older.entries.items in
     let first = map entry_of c.self.inside.first.entries in
     let later = map entry_of c.self.inside.later.entries in
     subst (λ (memo : MemoValue). Contains memo.entries one) c.self.view_is

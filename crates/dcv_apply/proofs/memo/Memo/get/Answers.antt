@@ -9,8 +9,8 @@ pub returns-then-is_some-clause-found : goal.returns-then-is_some-clause-found
 returns-then-is_some-clause-found c =
     let found = c.copied-early.result in
     let own = entry c.args.key.now.round c.args.key.now.operands.items in
-    let young = map entry_of_pair c.self.inside.younger.entries in
-    let old = map entry_of_pair c.self.inside.older.entries in
+    let young = map entry_of_pair c.self.inside.younger.entries.items in
+    let old = map entry_of_pair c.self.inside.older.entries.items in
     let first = map entry_of c.self.inside.first.entries in
     let later = map entry_of c.self.inside.later.entries in
     subst (λ (memo : MemoValue). IfSome found (λ root. Contains memo.entries (own root))) c.self.view_is
@@ -21,8 +21,8 @@ pub returns-clause-found : goal.returns-clause-found
 returns-clause-found c =
     let found = c.get-2.result in
     let own = entry c.args.key.now.round c.args.key.now.operands.items in
-    let young = map entry_of_pair c.self.inside.younger.entries in
-    let old = map entry_of_pair c.self.inside.older.entries in
+    let young = map entry_of_pair c.self.inside.younger.entries.items in
+    let old = map entry_of_pair c.self.inside.older.entries.items in
     let first = map entry_of c.self.inside.first.entries in
     let later = map entry_of c.self.inside.later.entries in
     subst (λ (memo : MemoValue). IfSome found (λ root. Contains memo.entries (own root))) c.self.view_is
@@ -31,8 +31,8 @@ returns-clause-found c =
 
 pub returns-clause-kept : goal.returns-clause-kept
 returns-clause-kept c one there =
-    let young = map entry_of_pair c.self.inside.younger.entries in
-    let old = map entry_of_pair c.self.inside.older.entries in
+    let young = map entry_of_pair c.self.inside.younger.entries.items in
+    let old = map entry_of_pair c.self.inside.older.entries.items in
     let first = map entry_of c.self.inside.first.entries in
     let later = map entry_of c.self.inside.later.entries in
     subst (λ (memo : MemoValue). Contains memo.entries one) c.self.view_is

@@ -10,8 +10,8 @@ pub returns-clause-found : goal.returns-clause-found
 returns-clause-found c =
     let found = c.get.result in
     let own : Ref → EntryValue = λ root. entry_of_pair (c.args.pair.now, root) in
-    let young = map entry_of_pair c.self.inside.younger.entries in
-    let old = map entry_of_pair c.self.inside.older.entries in
+    let young = map entry_of_pair c.self.inside.younger.entries.items in
+    let old = map entry_of_pair c.self.inside.older.entries.items in
     let first = map entry_of c.self.inside.first.entries in
     let later = map entry_of c.self.inside.later.entries in
     let there = found_if key_eq.it entry_of same_entry c.self.inside.later.entries c.key.result found c.get.ensures.value in
@@ -21,8 +21,8 @@ returns-clause-found c =
 
 pub returns-clause-kept : goal.returns-clause-kept
 returns-clause-kept c one there =
-    let young = map entry_of_pair c.self.inside.younger.entries in
-    let old = map entry_of_pair c.self.inside.older.entries in
+    let young = map entry_of_pair c.self.inside.younger.entries.items in
+    let old = map entry_of_pair c.self.inside.older.entries.items in
     let first = map entry_of c.self.inside.first.entries in
     let later = map entry_of c.self.inside.later.entries in
     subst (λ (memo : MemoValue). Contains memo.entries one) c.self.view_is

@@ -1,31 +1,30 @@
-use Rattle.std.proofs.Common.{map, ◌++◌, Contains, IfSome, inl, inr, subst, ◌∙◌}
+use Rattle.std.proofs.Common.{map, ◌++◌, Contains, IfSome, inl, inr, subst}
 use Rattle.dcv_arena.specs.declared.nodes.Ref.{Ref}
 use Rattle.dcv_apply.specs.Memo.{EntryValue, MemoValue}
 use Rattle.dcv_apply.specs.Remembered.{entry_of, entry_of_pair}
-use Rattle.dcv_apply.specs.contracts.keys.PairPartialEq.TheImpl.{eq-value as pair_eq}
-use Rattle.dcv_apply.proofs.MemoFacts.{same_pair, found_if, found_in}
+use Rattle.dcv_apply.proofs.MemoFacts.{found_in}
 use Rattle.dcv_apply.proofs.memo.Memo.get_pair.Goals as goal
 
 pub returns-then-is_some-clause-found : goal.returns-then-is_some-clause-found
 returns-then-is_some-clause-found c =
-    let found = c.copied-young.result in
+    let found = c.get-young.result in
     let own : Ref → EntryValue = λ root. entry_of_pair (c.args.pair.now, root) in
-    let young = map entry_of_pair c.self.inside.younger.entries in
-    let old = map entry_of_pair c.self.inside.older.entries in
+    let young = map entry_of_pair c.self.inside.younger.entries.items in
+    let old = map entry_of_pair c.self.inside.older.entries.items in
     let first = map entry_of c.self.inside.first.entries in
     let later = map entry_of c.self.inside.later.entries in
     subst (λ (memo : MemoValue). IfSome found (λ root. Contains memo.entries (own root))) c.self.view_is
     (found_in young (old ++ (first ++ later)) own found
-    (inl (found_if pair_eq.it entry_of_pair same_pair c.self.inside.younger.entries c.args.pair.now found (c.copied-young.ensures ∙ c.get.ensures.value))))
+    (inl c.get-young.ensures))
 
 pub returns-then-is_some-2-clause-found : goal.returns-then-is_some-2-clause-found
 returns-then-is_some-2-clause-found c =
-    let found = c.copied-old.result in
+    let found = c.get-old.result in
     let own : Ref → EntryValue = λ root. entry_of_pair (c.args.pair.now, root) in
-    let young = map entry_of_pair c.self.inside.younger.entries in
-    let old = map entry_of_pair c.self.inside.older.entries in
+    let young = map entry_of_pair c.self.inside.younger.entries.items in
+    let old = map entry_of_pair c.self.inside.older.entries.items in
     let first = map entry_of c.self.inside.first.entries in
     let later = map entry_of c.self.inside.later.entries in
     subst (λ (memo : MemoValue). IfSome found (λ root. Contains memo.entries (own root))) c.self.view_is
     (found_in young (old ++ (first ++ later)) own found (inr (found_in old (first ++ later) own found
-    (inl (found_if pair_eq.it entry_of_pair same_pair c.self.inside.older.entries c.args.pair.now found (c.copied-old.ensures ∙ c.get-2.ensures.value))))))
+    (inl c.get-old.ensures))))
