@@ -4,6 +4,7 @@ pub mod Accepting
 pub mod StepFacts
 pub mod Building
 pub mod Joining
+pub mod NextStates
 pub mod FaultFacts
 pub mod SlotSteps
 pub mod OneRound

@@ -7,10 +7,12 @@ pub mod AtomValue
 pub mod Laws
 -- For the `From`s of the faults alone.
 pub mod Faults
--- For proofs alone: how a row tells the state that is left, and how the diagrams of a proposition are built.
+-- For crates above, which count its states: the two numbers that tell each.
+pub mod Leaves
+-- For proofs alone: what a form asks of a letter, and how the diagrams of a proposition are built.
 pub mod Numbers
 pub mod SameStates
-pub mod Leaves
+pub mod Columns
 pub mod Functions
 pub mod Rounds
 pub mod Built

@@ -1,13 +1,15 @@
 // The machine of a form.
-ghost use Rattle.std.specs.Prelude.{if◌then◌else◌, ◌≡◌, ◌<◌, ◌≤◌, ◌==◌, ◌↔◌, ℕ, List, [], Bool, false, Err, length, IfOk, OnOk, IsTrue, slice_index_or};
+ghost use Rattle.std.specs.Prelude.{◌≡◌, ◌<◌, ◌≤◌, ◌↔◌, ℕ, List, Bool, true, false, Err, IfOk, IfErr, OnOk, IsTrue};
 ghost use Rattle.dcv_arena.specs.Arena.{IsRef, IsArena};
 ghost use Rattle.dcv_core.specs.Core.{PlainBasic};
 ghost use Rattle.dcv_core.specs.TruthViews.{plain_basic};
 ghost use Rattle.dcv_atoms.specs.declared.states.AtomMacro.{AtomMacro};
-ghost use Rattle.dcv_atoms.specs.declared.faults.AtomFault.TheVariants.{Nodes};
-ghost use Rattle.dcv_atoms.specs.AtomRows.{atom_machine, test_of, slot_test_of, after_letter};
+ghost use Rattle.dcv_atoms.specs.declared.states.AtomMacro.TheVariants.{Start};
+ghost use Rattle.dcv_atoms.specs.declared.faults.AtomFault.TheVariants.{Nodes, Memory};
+ghost use Rattle.dcv_atoms.specs.AtomRows.{atom_machine, test_of, slot_test_of};
 ghost use Rattle.dcv_atoms.specs.Functions.{Means};
-ghost use Rattle.dcv_atoms.specs.Leaves.{leaf_count, state_told};
+ghost use Rattle.dcv_atoms.specs.Columns.{column_of, column_by};
+ghost use Rattle.dcv_explore.specs.Classes.{AreClassesOf};
 ghost use Rattle.dcv_atoms.specs.Numbers.{HasRoom};
 ghost use Rattle.dcv_atoms.specs.Parts.{basic_parts, proposition_parts, slot_parts, atom_nodes};
 ghost use Rattle.dcv_atoms.specs.Built.{Builds, Exceeds};
@@ -20,21 +22,19 @@ use crate::rows;
 use crate::states::AtomMacro;
 use dcv_arena::{Arena, Ref};
 use dcv_core::{Basic, Core, Op};
-use dcv_explore::{Limits, Machine, Operands};
+use dcv_explore::{ClassLimits, Functions, LetterClasses, Limits, Machine, Operands};
 use std::alloc::{AllocError, Global};
 use std::marker::Model;
 
-/// A form of a core, with the diagrams of its proposition and its slot.
+/// A form of a core, with the classes of letters that its proposition and its slot distinguish.
 #[derive(Drop)]
 pub struct Atom<'a> {
     // the form, as the core has it
     basic: &'a Basic,
-    // the nodes of both functions
+    // the nodes of its proposition's parts
     arena: Arena,
-    // the letters in which the proposition holds; of a form without one, none
-    root: Ref,
-    // the letters in which the slot of a shift is true; of a form that is none, none
-    slot: Ref,
+    // the letters by whether its proposition holds in them, and its slot is true
+    classes: LetterClasses,
 }
 
 impl<'a> Model for Atom<'a> {
@@ -47,9 +47,9 @@ impl<'a> Model for Atom<'a> {
 
     ghost coded = { Prim.hlevel (codes, truth_code) };
 
-    ghost view = { λ atom. atom_value (plain_basic atom.basic.now) atom.arena atom.root atom.slot };
+    ghost view = { λ atom. atom_value (plain_basic atom.basic.now) atom.arena atom.classes };
 
-    ghost invariant = { λ atom. IsAtomValue (atom_value (plain_basic atom.basic.now) atom.arena atom.root atom.slot) };
+    ghost invariant = { λ atom. IsAtomValue (atom_value (plain_basic atom.basic.now) atom.arena atom.classes) };
 }
 
 impl<'a> Atom<'a> {
@@ -95,11 +95,11 @@ impl<'a> Atom<'a> {
         }
         let mut arena = Arena::new(alloc, slots, limit);
         let (root, slot) = diagrams(alloc, &mut arena, basic)?;
+        let classes = distinguished(alloc, &arena, root, slot)?;
         Ok(Atom {
             basic,
             arena,
-            root,
-            slot,
+            classes,
         })
     }
 
@@ -167,11 +167,35 @@ fn shifted(arena: &mut Arena, basic: &Basic) -> Result<Ref, AtomFault>
     }
 }
 
-// Whether the form is a shift.
-fn is_shift(basic: &Basic) -> bool
-    ensures { leaf_count (plain_basic basic.now) ≡ (if result then 4 else 3) }
+// The classes of letters that two functions of truths distinguish: four at most. Where their diagram had 2 ^ 32 nodes, that would count as
+// running out of memory.
+fn distinguished(
+    alloc: Global,
+    arena: &Arena,
+    root: Ref,
+    slot: Ref,
+) -> Result<LetterClasses, AtomFault>
+    requires slots { arena.now.slots ≤ 32 }
+    requires root { IsRef arena.now root }
+    requires slot { IsRef arena.now slot }
+    ensures classes { (P T : List Bool → Bool) → Means arena.now root arena.now.slots P → Means arena.now slot arena.now.slots T
+        → IfOk result (λ classes. AreClassesOf classes arena.now.slots (column_by P T)) }
+    ensures fault { IfErr result (λ fault. fault ≡ Memory) }
 {
-    matches!(basic, Basic::Track(_, _, _))
+    let functions = Functions {
+        first: arena,
+        second: arena,
+        list: &[(0, root), (0, slot)],
+        both_last: false,
+    };
+    let limits = ClassLimits {
+        classes: u32::MAX,
+        nodes: u32::MAX,
+    };
+    match LetterClasses::of(alloc, arena.slots(), functions, limits)? {
+        Some(classes) => Ok(classes),
+        None => Err(AtomFault::Memory),
+    }
 }
 
 impl Machine for Atom<'_> {
@@ -187,12 +211,15 @@ impl Machine for Atom<'_> {
 
     ghost operand = { λ atom place. atom.arena };
 
-    ghost may = { λ atom leaves. length leaves ≡ leaf_count atom.form };
+    ghost may = { λ atom leaves. Unit {0} };
 
-    ghost merged = { λ atom leaves. after_letter atom.form
-        (state_told (slice_index_or leaves 0 0) (slice_index_or leaves 1 0)) (slice_index_or leaves 2 0 == 1) (slice_index_or leaves 3 0 == 1) };
+    ghost merged = { λ atom leaves. Start };
 
-    ghost extended = { λ atom state numbers. state };
+    ghost extended = { λ atom state leaves. state };
+
+    ghost by_classes = { λ atom. true };
+
+    ghost column_at = { λ atom. column_of atom.form };
 
     fn both_last(&self) -> bool {
         false
@@ -210,21 +237,28 @@ impl Machine for Atom<'_> {
         &self.arena
     }
 
-    // The state is told by two leaves, and the letter by the proposition and the slot of a shift.
-    fn operands(&self, from: &AtomMacro, to: &mut Operands) -> Result<(), AllocError> {
-        to.push(0, Ref::Leaf(from.number()))?;
-        to.push(0, Ref::Leaf(from.count()))?;
-        to.push(0, self.root)?;
-        if is_shift(self.basic) {
-            to.push(0, self.slot)?;
-        }
-        Ok(())
+    fn classes(&self) -> Option<&LetterClasses> {
+        Some(&self.classes)
     }
 
-    fn merge(&self, _alloc: Global, leaves: &[u32]) -> Result<AtomMacro, AllocError> {
-        let from = AtomMacro::told(leaves[0], leaves[1]);
-        let shifted = leaves.get(3) == Some(&1);
-        Ok(rows::after(self.basic, from, leaves[2] == 1, shifted))
+    #[tactic(auto, using(crate::proofs::NextStates::comes_next))]
+    fn next_in(
+        &self,
+        _alloc: Global,
+        from: &AtomMacro,
+        column: &[u32],
+    ) -> Result<Option<AtomMacro>, AllocError> {
+        let to = rows::after(self.basic, *from, column[0] == 1, column[1] == 1);
+        Ok(Some(to))
+    }
+
+    // An atom goes by classes: no row of it is merged of operands, and it has none.
+    fn operands(&self, _from: &AtomMacro, _to: &mut Operands) -> Result<(), AllocError> {
+        Err(AllocError)
+    }
+
+    fn merge(&self, _alloc: Global, _leaves: &[u32]) -> Result<AtomMacro, AllocError> {
+        Ok(AtomMacro::Start)
     }
 
     fn copy(&self, _alloc: Global, of: &AtomMacro) -> Result<AtomMacro, AllocError> {
