@@ -75,7 +75,8 @@ pub(crate) fn chop(
     requires { first.stored.slots ≡ second.stored.slots }
     ensures { SettlesUpTo extent (chop_machine first.entry.stored.slots (automaton_of (view_table first.entry).table) (automaton_of (view_table second.entry).table)) 0 limits step result }
 {
-    settle(alloc, &Chop::new(&first, &second), 0, limits, step, extent)
+    let chop = Chop::new(alloc, &first, &second)?;
+    settle(alloc, &chop, 0, limits, step, extent)
 }
 
 // Words of the operand one after the other.
@@ -88,7 +89,8 @@ pub(crate) fn star(
 ) -> Result<Explored, BuildFault>
     ensures { SettlesUpTo extent (star_machine operand.entry.stored.slots (automaton_of (view_table operand.entry).table)) 0 limits step result }
 {
-    settle(alloc, &Star::new(&operand), 0, limits, step, extent)
+    let star = Star::new(alloc, &operand)?;
+    settle(alloc, &star, 0, limits, step, extent)
 }
 
 // The words that some track in the last slot brings into those of the operand.
@@ -102,5 +104,6 @@ pub(crate) fn some_track(
     requires { 0 < operand.stored.slots }
     ensures { SettlesUpTo extent (exists_machine (operand.entry.stored.slots - 1) (automaton_of (view_table operand.entry).table)) 0 limits step result }
 {
-    settle(alloc, &Exists::new(&operand), 0, limits, step, extent)
+    let exists = Exists::new(alloc, &operand)?;
+    settle(alloc, &exists, 0, limits, step, extent)
 }

@@ -30,9 +30,9 @@ fn products_copy(alloc: Global, auto: &Auto) -> Result<[bool; 3], AllocError> {
 fn others_copy(alloc: Global, auto: &Auto) -> Result<[bool; 3], AllocError>
     requires { 0 < auto.now.arena.slots }
 {
-    let track = copies_its_start(alloc, &Exists::new(auto))?;
-    let cut = copies_its_start(alloc, &Chop::new(auto, auto))?;
-    let parts = copies_its_start(alloc, &Star::new(auto))?;
+    let track = copies_its_start(alloc, &Exists::new(alloc, auto)?)?;
+    let cut = copies_its_start(alloc, &Chop::new(alloc, auto, auto)?)?;
+    let parts = copies_its_start(alloc, &Star::new(alloc, auto)?)?;
     Ok([track, cut, parts])
 }
 

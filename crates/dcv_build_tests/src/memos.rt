@@ -1,39 +1,51 @@
-// An atom explored with memos of two capacities: what the smaller has forgotten is merged again, and comes to the same automaton.
+// A product explored with memos of two capacities: what the smaller has forgotten is merged again, and comes to the same automaton.
 ghost use Rattle.std.specs.Prelude.{◌≤◌};
 
-use crate::atoms::atom_of;
-use crate::goals::core_of;
+use crate::goals::auto_of;
 use dcv_apply::Memo;
+use dcv_dfa::Auto;
 use dcv_explore::{Limits, explore_with};
+use dcv_product::And;
 use dcv_tables::text_of;
 use std::alloc::Global;
 use std::test::Fail;
 
-// The text of the automaton of an atom of 9 states and 4 nodes, how many nodes its rows have, and how many entries a memo of this capacity has then.
-fn explored(alloc: Global, capacity: usize) -> Result<(String, u32, usize), Fail>
+// The text, how many nodes the rows have, and how many entries a memo has then.
+type Explored = (String, u32, usize);
+
+// The text of the product of an automaton of 4 states and 2 nodes with itself, how many nodes its rows have, and how many entries a memo of this
+// capacity has then.
+fn explored(alloc: Global, auto: &Auto, capacity: usize) -> Result<Explored, Fail>
     requires { 1 ≤ capacity }
 {
-    let core = core_of(alloc, "var p; infer sdur p >= 2;")?;
-    let atom = atom_of(alloc, &core, 1)??;
+    let both = And::new(auto, auto);
     let mut memo = Memo::new(alloc, capacity)?;
     let limits = Limits {
-        states: 9,
-        nodes: 4,
+        states: 4,
+        nodes: 2,
     };
-    let raw = explore_with(alloc, &atom, limits, &mut memo)?;
+    let raw = explore_with(alloc, &both, limits, &mut memo)?;
     Ok((text_of(alloc, &raw)?, raw.arena().len(), memo.len()))
 }
 
-// The states are the start, and after it what was counted and the last truth: (0, 0), (0, 1), (1, 0), (1, 1) and so on up to (3, 1).
-const TABLE: &str =
-    "reject 1 2; reject 1 2; reject 3 4; reject 3 4; reject 5 6; accept 5 6; accept 7 8; accept 7 8; accept 7 8";
+// The same with memos of one entry and of many.
+fn explored_twice(alloc: Global, auto: &Auto) -> Result<(Explored, Explored), Fail> {
+    let one = explored(alloc, auto, 1)?;
+    let other = explored(alloc, auto, 65_536)?;
+    Ok((one, other))
+}
+
+// The states are what was counted with the last truth, if it is below 2: 0 and false, 1 either way, and 1 with the last true; and what is 2 or more.
+const TABLE: &str = "reject 0 1; reject 1 2; reject 3 3; accept 3 3";
 
 #[test]
 fn one_entry_and_many(rt: HostRuntime) -> Result<(), Fail> {
-    let (one, one_nodes, entry) = explored(rt.alloc(), 1)?;
-    let (other, other_nodes, entries) = explored(rt.alloc(), 65_536)?;
+    let auto = auto_of(rt.alloc(), "var p; infer sdur p >= 2;")?;
+    let both = explored_twice(rt.alloc(), &auto);
+    drop(auto);
+    let ((one, one_nodes, entry), (other, other_nodes, entries)) = both?;
     assert_eq!(rt; (one.as_str(), other.as_str()), (TABLE, TABLE));
-    assert_eq!(rt; (one_nodes, other_nodes), (4, 4));
+    assert_eq!(rt; (one_nodes, other_nodes), (2, 2));
     assert!(rt; entry >= 1 && entries >= 1);
     Ok(())
 }

@@ -1,2 +1,4 @@
-pub mod SameSets
+pub mod ColumnNumbers
 pub mod RowNumbers
+pub mod SameSets
+pub mod SetBits
