@@ -9,8 +9,6 @@ mod Negation
 mod Operands
 mod OverLaws
 mod PostOrder
-mod ProductBounds
-mod ProductNodes
 pub mod Progress
 mod Recalled
 pub mod SameRows
@@ -20,3 +18,8 @@ mod ShelfTables
 mod StepMachines
 mod Turning
 mod Waiting
+mod ProductBounds
+mod ProductNodes
+mod RowParts
+mod SlotNodes
+mod AllPairs

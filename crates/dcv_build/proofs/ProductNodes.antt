@@ -1,6 +1,6 @@
 -- How many nodes the rows of a product have.
 --     parts_of slots tables states     what an operand's rows are made of: its nodes, and a leaf for each of its states
---     joined_no_more                   the rows of the product have no more nodes than there are pairs of these
+--     all_pairs                        each node of a row of the product is among the pairs of these
 -- At a level of a row of the product stands what the rows of both operands have there, entry by entry. Each of the two is a part of its
 -- operand, repeated; and where the halves of what stands there differ, those of one of the two do, so that this one is not repeated.
 use Rattle.std.proofs.Common.{◌≡◌, ◌≢◌, ◌⊎◌, inl, inr, ℕ, zero, suc, ◌+◌, ◌-◌, ◌*◌, ◌<◌, ◌≤◌, Bool, true, false, List, [], ◌∷◌, ◌++◌, length, length-append, map, nat_eq, Contains, refl, sym, ap, subst, ◌∙◌, arith}
@@ -18,7 +18,7 @@ use Rattle.dcv_word.specs.Letter.{letters_of_width}
 use Rattle.dcv_arena.specs.Diagram.{as_table, nodes_of, nodes_of_all, is_same_node, node_count}
 use Rattle.dcv_arena.proofs.Blocks.{IsNodeOf, part_of, low_part, high_part, part-halves, nodes_of-from, nodes_of-is}
 use Rattle.dcv_arena.proofs.Fewer.{same_node, each_once}
-use Rattle.dcv_arena.proofs.Members.{Contains-map, Contains-flat_map, Contains-flat_map_cases, Contains-range}
+use Rattle.dcv_arena.proofs.Members.{Contains-map, Contains-flat_map, Contains-range}
 
 -- ---- all pairs of two lists
 
@@ -194,30 +194,21 @@ module _ (slots : ℕ) (join : ℕ → ℕ → ℕ) (tables others : List (List 
         ]
       ]
 
-  -- a row of the product
-  pub record IsJoined (row : List ℕ) : Type 0 where
-    pub first : List Bool → ℕ
-    pub second : List Bool → ℕ
-    pub first_is : IsRow slots tables states first
-    pub second_is : IsRow slots others more second
-    pub numbers : as_table slots (joined first second) ≡ row
+  node_stands_in : (f g : List Bool → ℕ) → IsRow slots tables states f → IsRow slots others more g → (node : ℕ × List ℕ)
+      → Contains (nodes_of slots (as_table slots (joined f g))) node → Contains pairs node
+  node_stands_in f g row other node there =
+      let split = nodes_of-is slots (joined f g) node there in
+      subst (Contains pairs) (λ i. (split.level i, sym split.numbers i)) (node_stands f g row other split.front split.rest split.size split.differ)
 
-  node_of : (row : List ℕ) → IsJoined row → (node : ℕ × List ℕ) → Contains (nodes_of slots row) node → Contains pairs node
-  node_of row is node there =
-      let split = nodes_of-is slots (joined is.first is.second) node (subst (λ numbers. Contains (nodes_of slots numbers) node) (sym is.numbers) there) in
-      subst (Contains pairs) (λ i. (split.level i, sym split.numbers i))
-      (node_stands is.first is.second is.first_is is.second_is split.front split.rest split.size split.differ)
+  -- pairs of all parts, among which each node is
+  pub record HasPairs : Type 0 where
+    pub nodes : List (ℕ × List ℕ)
+    pub few : length nodes ≡ (states + node_count slots tables) * (more + node_count slots others)
+    pub all : (f g : List Bool → ℕ) → IsRow slots tables states f → IsRow slots others more g → (node : ℕ × List ℕ) → Contains (nodes_of slots (as_table slots (joined f g))) node → Contains nodes node
 
-  pub joined_no_more : (rows : List (List ℕ)) → ((row : List ℕ) → Contains rows row → IsJoined row)
-      → node_count slots rows ≤ (states + node_count slots tables) * (more + node_count slots others)
-  joined_no_more rows each =
-      let all = nodes_of_all slots rows in
-      let once = each_once all in
-      let count = length-products (side_by_side join) firsts seconds in
-      let few : length (unique_keys is_same_node all) ≤ length pairs = no_more same_node (unique_keys is_same_node all) pairs once.apart (λ node there.
-      let listed = (is_member-Decides same_node all node).0 (sym (once.members node) ∙ (is_member-Decides same_node (unique_keys is_same_node all) node).1 there) in
-      let by_row = Contains-flat_map_cases (nodes_of slots) rows node listed in
-      node_of by_row.0 (each by_row.0 by_row.1) node by_row.2) in
-      let sizes : length pairs ≡ (states + node_count slots tables) * (more + node_count slots others) =
-      count ∙ (λ i. length-parts_of slots tables states i * length-parts_of slots others more i) in
-      omega (arith, few, sizes)
+  pub all_pairs : HasPairs
+  all_pairs = record {
+    nodes = pairs;
+    few = length-products (side_by_side join) firsts seconds ∙ (λ i. length-parts_of slots tables states i * length-parts_of slots others more i);
+    all = node_stands_in;
+  }

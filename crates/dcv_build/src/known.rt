@@ -165,7 +165,7 @@ impl Known {
             (operand_at (plain_tables self.now.tables) first) (operand_at (plain_tables self.now.tables) second))) self.now.limits }
     {
         let (first, second) = (self.shelf.view(first), self.shelf.view(second));
-        cannot_exceed(&first, &second, self.limits)
+        cannot_exceed(self.alloc, &first, &second, self.limits)
     }
 
     // The automaton of an answer, beside its counts.
