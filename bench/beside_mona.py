@@ -8,63 +8,64 @@ Each time is the least of so many runs (RUNS, 5 by default) in milliseconds, sta
 quotient, and the wall time of both. Then the memory of one run of each in MB. What is valid for one must be valid for the other. Where MONA takes over a
 minute there is no quotient. The last lines have the geometric means. PROGRAM names the program.
 
-The last figures: 1 December 2026, MONA 1.4-18, an unproved build of `dcvalid` (`bench/unproved.py`), an Intel Xeon at 2.5 GHz; the least of six runs at
-`nice -n -5`, with a load of 14 to 15 on its four processors. So the wall times are of little use; the processor times are less disturbed. A run of a
-millisecond or two is mostly the start of the process.
+The last figures: 2 December 2026, MONA 1.4-18, an unproved build of `dcvalid` (`bench/unproved.py`), an Intel Xeon at 2.5 GHz; the least of six runs,
+before all others, with a load of 6 on its four processors. The program of the day before had 0.150 in the geometric mean and 0.71 at most, with nothing
+beside it. A run of a millisecond or two is mostly the start of a process, which is 0.4 ms.
 
   case                    ms      MONA  times   wall ms      MONA        MB    MONA  times  answer
-  arbiter 2 4            1.1       3.2   0.36       2.9       6.4       2.0     4.5   0.43  not valid
-  arbiter 3 4            1.4       4.0   0.36       6.2       6.5       2.0     4.6   0.42  not valid
-  arbiter 4 4            2.2       6.7   0.32       4.7      31.1       2.1     4.9   0.44  not valid
-  arbiter 5 6           16.3     240.7   0.07      52.0     740.6       4.3    42.0   0.10  not valid
-  arbiter 6 5          329.7     681.7   0.48    1110.8    2394.4      40.8    81.7   0.50  not valid
-  arbiter 8 3          152.4     497.6   0.31     615.9    2075.9      23.9    82.1   0.29  not valid
-  chain 1500             1.1    1698.6   0.00       2.2    4658.5       2.2     6.4   0.35  not valid
-  chain 200              0.9      31.6   0.03       1.1     118.9       1.9     4.6   0.41  not valid
-  chain 700              0.9     360.9   0.00       1.2     714.0       1.9     5.4   0.36  not valid
-  count 4                0.8       3.6   0.23       1.1       7.9       2.1     4.4   0.48  not valid
-  count 6                0.9       7.3   0.12       1.2      29.8       1.8     4.7   0.39  not valid
-  count 8                0.8      31.3   0.03       1.1     102.6       2.0     5.0   0.40  not valid
-  handshake 14           3.2      13.1   0.25       7.9      39.9       2.2     4.7   0.46  valid
-  handshake 25           5.3      27.8   0.19       7.4      63.0       2.5     4.8   0.53  valid
-  handshake 40           9.3      59.8   0.16      33.6     194.2       3.6     5.7   0.63  valid
-  layers 120            12.6     129.2   0.10      43.9     432.0       2.8    12.7   0.22  not valid
-  layers 30              6.1      22.6   0.27      20.5      82.2       2.4     5.7   0.43  not valid
-  layers 60              9.6      43.5   0.22      41.5     192.6       2.4     7.2   0.34  not valid
-  mixture 12            23.4      78.3   0.30      88.5     317.5       6.4    15.7   0.41  not valid
-  mixture 6              1.4       4.4   0.31       1.7      16.0       2.1     4.6   0.46  not valid
-  mixture 9              5.7      47.5   0.12      27.9     192.3       3.2    13.9   0.23  not valid
-  past 12               13.3      21.1   0.63      49.9      76.3       3.9     6.3   0.61  not valid
-  past 6                 1.0       2.9   0.36       1.3       3.9       2.0     4.4   0.46  not valid
-  past 9                 2.2       4.8   0.46       2.6       5.2       2.2     4.6   0.48  not valid
-  quantified 4           0.9       3.6   0.26       8.0      13.5       2.0     4.5   0.45  not valid
-  quantified 6           0.9       6.9   0.13       1.3      15.9       2.0     4.6   0.43  not valid
-  quantified 8           0.9      30.0   0.03       1.3     150.8       2.0     5.1   0.39  not valid
-  response 11           15.5      23.3   0.67      59.9      99.9       4.1     7.5   0.54  not valid
-  response 13           83.1     203.5   0.41     359.9     819.9      11.4    16.9   0.68  not valid
-  response 8             2.6       5.1   0.50       2.9      15.9       2.2     5.0   0.44  not valid
-  separation 100         1.5      22.1   0.07       1.8      78.0       2.2     4.5   0.49  not valid
-  separation 300         2.4     164.5   0.01       2.7     776.9       2.2     4.6   0.48  not valid
-  separation 600         3.7     723.0   0.01      11.9    4491.4       2.5     5.0   0.51  not valid
-  geometric mean of the processor times: 0.121, the greatest 0.67
-  geometric mean of the wall times: 0.088, the greatest 0.96
+  arbiter 2 4            0.7       2.1   0.34       0.9       2.3       2.1     4.5   0.46  not valid
+  arbiter 3 4            0.9       2.3   0.38       1.0       2.5       2.0     4.6   0.44  not valid
+  arbiter 4 4            1.4       4.2   0.34       1.6       4.3       2.1     4.9   0.44  not valid
+  arbiter 5 6           11.1     176.6   0.06      12.6     179.6       4.5    42.0   0.11  not valid
+  arbiter 6 5           43.4     442.5   0.10      44.0     444.9      10.9    81.7   0.13  not valid
+  arbiter 8 3           83.5     368.6   0.23      84.0     369.3      20.2    82.1   0.25  not valid
+  chain 1500             0.8     810.1   0.00       1.0     822.0       2.0     6.3   0.31  not valid
+  chain 200              0.6      15.4   0.04       0.8      15.5       2.0     4.6   0.43  not valid
+  chain 700              0.7     169.5   0.00       1.0     171.9       1.9     5.4   0.35  not valid
+  count 4                0.6       2.2   0.26       1.1       5.6       2.0     4.4   0.45  not valid
+  count 6                0.5       3.8   0.12       0.6       3.9       2.0     4.7   0.44  not valid
+  count 8                0.6      16.9   0.04       0.9      17.9       2.0     5.0   0.41  not valid
+  handshake 14           1.8       7.2   0.25       2.0       7.4       2.2     4.8   0.47  valid
+  handshake 25           2.9      13.9   0.21       3.3      14.1       2.5     4.8   0.51  valid
+  handshake 40           4.7      27.5   0.17       5.0      27.8       3.5     5.8   0.60  valid
+  layers 120             7.2      62.4   0.11       7.5      62.9       3.0    12.7   0.24  not valid
+  layers 30              3.6      12.4   0.29       3.8      12.6       2.3     5.7   0.41  not valid
+  layers 60              5.6      23.9   0.23       6.0      25.2       2.5     7.2   0.34  not valid
+  mixture 12            12.8      41.8   0.31      13.7      43.7       5.8    15.7   0.37  not valid
+  mixture 6              1.0       2.8   0.35       1.1       2.9       2.0     4.6   0.44  not valid
+  mixture 9              3.5      27.3   0.13       3.8      27.6       3.1    13.8   0.22  not valid
+  past 12                5.0      10.2   0.49       5.2      10.7       3.7     6.3   0.58  not valid
+  past 6                 0.5       1.5   0.35       0.7       1.6       2.0     4.4   0.47  not valid
+  past 9                 1.1       2.7   0.40       1.6       5.5       2.3     4.6   0.50  not valid
+  quantified 4           0.6       2.2   0.29       1.8       5.2       1.9     4.5   0.43  not valid
+  quantified 6           0.5       3.9   0.13       0.6       4.1       2.0     4.6   0.42  not valid
+  quantified 8           0.7      16.1   0.04       0.9      16.4       2.1     5.2   0.40  not valid
+  response 11            5.8      11.8   0.49       6.0      12.1       3.8     7.5   0.50  not valid
+  response 13           24.4      72.6   0.34      24.8      73.1       9.6    16.9   0.57  not valid
+  response 8             1.3       3.0   0.44       2.1       5.6       2.2     5.0   0.44  not valid
+  separation 100         0.9      10.5   0.09       1.1      10.9       2.1     4.6   0.47  not valid
+  separation 300         1.4      73.4   0.02       1.7      74.0       2.2     4.6   0.48  not valid
+  separation 600         2.1     311.3   0.01       2.4     313.0       2.3     5.1   0.45  not valid
+  geometric mean of the processor times: 0.123, the greatest 0.49
+  geometric mean of the wall times: 0.134, the greatest 0.50
 
 Instructions of one run (callgrind, millions), which no other load disturbs, of an unproved build: on 27 November 2026, before the minimiser divided by
 hashes; on 29 November; on 1 December, with a verdict that is not minimised, rows of large sets that are made from those of smaller ones, and arenas that grow
-fourfold; with a last operator that is explored no further than its verdict needs (now); and MONA's.
+fourfold; with a last operator that is explored no further than its verdict needs; on 2 December, with classes of letters, a memo of two operands in lists, and a
+bound slot by slot (now); and MONA's.
 
-  arbiter 5 6        610     367     229      83     629
-  arbiter 6 5       1636    1073     701     702    1312
-  arbiter 8 3       1482    1202     905     505     891
-  chain 700          4.1     3.9     1.2     1.2    2514
-  count 8            0.4     0.4     0.4     0.4     159
-  handshake 40      52.4    51.9      42      42     398
-  layers 120         103      73      71      71     879
-  mixture 12         342     285     196     102     202
-  past 12            181     126      80      80     103
-  quantified 8       0.8     0.7     0.7     0.7     160
-  response 13        608     435     387     388     421
-  separation 300    13.3    12.7    10.3    10.4    1234
+  arbiter 5 6          610     367     229      83      74     629
+  arbiter 6 5         1636    1073     701     702     275    1312
+  arbiter 8 3         1482    1202     905     505     457     891
+  chain 700            4.1     3.9     1.2     1.2     1.1    2514
+  count 8              0.4     0.4     0.4     0.4     0.4     159
+  handshake 40        52.4    51.9      42      42      36     398
+  layers 120           103      73      71      71      71     879
+  mixture 12           342     285     196     102      92     202
+  past 12              181     126      80      80      47     103
+  quantified 8         0.8     0.7     0.7     0.7     0.7     160
+  response 13          608     435     387     388     255     421
+  separation 300      13.3    12.7    10.3    10.4     9.5    1234
   15 macros that double their number of conjunctions (`m14`): 574 and 187
 Maps of the memo that grow fourfold too took 0.4 % less, and up to a quarter more memory.
 """

@@ -11,13 +11,14 @@ A run may take 100 s of processor time and 2 GB of address space. The columns ar
     joins               a count of a parity, joined with atoms that look at some of its variables
     waiting N           N large operands that all wait for the innermost one
 
-The last figures: 1 December 2026, an unproved build, an Intel Xeon at 2.5 GHz with a load of 13 to 29 on its four processors. `waiting 80` was begun and
-not ended: with this load its 100 s of processor time took more than the time that there was.
+The last figures: 2 December 2026, an unproved build, an Intel Xeon at 2.5 GHz with a load of 6 on its four processors, before all others.
 
-  dense            56 bytes     4.4 s   1711.1 MB  not valid
-  gap             211 bytes    80.6 s    600.1 MB  not valid
-  joins           311 bytes     4.5 s     63.9 MB  not valid
-  waiting 20     2485 bytes    50.0 s   1031.4 MB  fault memory
+  dense            56 bytes     2.4 s     60.2 MB  not valid
+  gap             211 bytes     1.2 s     61.3 MB  not valid
+  joins           311 bytes     1.6 s     58.5 MB  not valid
+  waiting 20     2485 bytes    19.3 s   1007.0 MB  fault memory
+
+The day before, with rows of sets by all their states and sets as lists: 4.4 s and 1,711 MB, 80.6 s and 600 MB, 4.5 s and 64 MB, 50.0 s.
 """
 import os
 import random
