@@ -22,7 +22,6 @@ NAMED = {
     ("dcv_io/src/text.rt", "if failed { Err(AllocError) } else { Ok(bytes) }"): "nothing: a push of this text was refused memory before",
     ("dcv_atoms/src/atom.rt", "return Err(AtomFault::Memory);"): "a step over more than 32 slots, or a measure of 2^32 - 1, which no text has",
     ("dcv_atoms/src/atom.rt", "None => Err(AtomFault::Memory),"): "2^32 - 1 nodes of the classes of letters of one atom",
-    ("dcv_atoms/src/atom.rt", "Err(AllocError)"): "nothing: an atom goes by classes of letters, so the operands of its rows are never asked for",
     ("dcv_atoms/src/functions.rt", "Err(_) => Err(AtomFault::Memory),"): "2^32 - 1 nodes of what the operands of one proposition are joined to",
     ("dcv_atoms/src/rounds.rt", "return Err(ApplyFault::Memory);"): "2^32 - 1 operands of one proposition",
     ("dcv_c_read/src/observer.rt", "return Err(AllocError);"): "an observer's text of 4 GB",

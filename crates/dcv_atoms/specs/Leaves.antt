@@ -1,8 +1,10 @@
--- How a state is told by two numbers.
+-- How a state is told by two numbers, which stand among the operands of its row.
 --     number_of state            which of the states it is, but for what was counted
 --     count_of state             what was counted
 --     state_told number count    the state of which these are the two
+--     leaf_count form            how many numbers a row has: the two, that of the proposition, and that of a shift's slot
 use Rattle.std.specs.Prelude.{◌==◌, ℕ, if◌then◌else◌}
+use Rattle.dcv_core.specs.Core.{PlainBasic, BasicTrack}
 use Rattle.dcv_atoms.specs.declared.states.AtomMacro.{AtomMacro}
 use Rattle.dcv_atoms.specs.declared.states.AtomMacro.TheVariants.{Start, First, Good, Last, Bad, Count, Lasted}
 
@@ -29,3 +31,7 @@ state_told number count =
     else if number == 4 then Bad
     else if number == 5 then Count count
     else Lasted count (number == 7)
+
+abbrev pub leaf_count : PlainBasic → ℕ
+leaf_count (BasicTrack direction p slot) = 4
+leaf_count _ = 3

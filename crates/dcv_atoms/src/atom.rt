@@ -1,13 +1,13 @@
 // The machine of a form.
-ghost use Rattle.std.specs.Prelude.{◌≡◌, ◌<◌, ◌≤◌, ◌↔◌, ℕ, List, Bool, true, false, Err, IfOk, IfErr, OnOk, IsTrue};
+ghost use Rattle.std.specs.Prelude.{if◌then◌else◌, ◌≡◌, ◌<◌, ◌≤◌, ◌==◌, ◌↔◌, ℕ, List, [], Bool, true, false, Err, length, IfOk, IfErr, OnOk, IsTrue, slice_index_or};
 ghost use Rattle.dcv_arena.specs.Arena.{IsRef, IsArena};
 ghost use Rattle.dcv_core.specs.Core.{PlainBasic};
 ghost use Rattle.dcv_core.specs.TruthViews.{plain_basic};
 ghost use Rattle.dcv_atoms.specs.declared.states.AtomMacro.{AtomMacro};
-ghost use Rattle.dcv_atoms.specs.declared.states.AtomMacro.TheVariants.{Start};
 ghost use Rattle.dcv_atoms.specs.declared.faults.AtomFault.TheVariants.{Nodes, Memory};
-ghost use Rattle.dcv_atoms.specs.AtomRows.{atom_machine, test_of, slot_test_of};
+ghost use Rattle.dcv_atoms.specs.AtomRows.{atom_machine, test_of, slot_test_of, after_letter};
 ghost use Rattle.dcv_atoms.specs.Functions.{Means};
+ghost use Rattle.dcv_atoms.specs.Leaves.{leaf_count, state_told};
 ghost use Rattle.dcv_atoms.specs.Columns.{column_of, column_by};
 ghost use Rattle.dcv_explore.specs.Classes.{AreClassesOf};
 ghost use Rattle.dcv_atoms.specs.Numbers.{HasRoom};
@@ -26,13 +26,17 @@ use dcv_explore::{ClassLimits, Functions, LetterClasses, Limits, Machine, Operan
 use std::alloc::{AllocError, Global};
 use std::marker::Model;
 
-/// A form of a core, with the classes of letters that its proposition and its slot distinguish.
+/// A form of a core, with the diagrams of its proposition and its slot, and the classes of letters that these distinguish.
 #[derive(Drop)]
 pub struct Atom<'a> {
     // the form, as the core has it
     basic: &'a Basic,
-    // the nodes of its proposition's parts
+    // the nodes of both functions
     arena: Arena,
+    // the letters in which the proposition holds; of a form without one, none
+    root: Ref,
+    // the letters in which the slot of a shift is true; of a form that is none, none
+    slot: Ref,
     // the letters by whether its proposition holds in them, and its slot is true
     classes: LetterClasses,
 }
@@ -47,9 +51,9 @@ impl<'a> Model for Atom<'a> {
 
     ghost coded = { Prim.hlevel (codes, truth_code) };
 
-    ghost view = { λ atom. atom_value (plain_basic atom.basic.now) atom.arena atom.classes };
+    ghost view = { λ atom. atom_value (plain_basic atom.basic.now) atom.arena atom.root atom.slot atom.classes };
 
-    ghost invariant = { λ atom. IsAtomValue (atom_value (plain_basic atom.basic.now) atom.arena atom.classes) };
+    ghost invariant = { λ atom. IsAtomValue (atom_value (plain_basic atom.basic.now) atom.arena atom.root atom.slot atom.classes) };
 }
 
 impl<'a> Atom<'a> {
@@ -99,6 +103,8 @@ impl<'a> Atom<'a> {
         Ok(Atom {
             basic,
             arena,
+            root,
+            slot,
             classes,
         })
     }
@@ -167,6 +173,13 @@ fn shifted(arena: &mut Arena, basic: &Basic) -> Result<Ref, AtomFault>
     }
 }
 
+// Whether the form is a shift.
+fn is_shift(basic: &Basic) -> bool
+    ensures { leaf_count (plain_basic basic.now) ≡ (if result then 4 else 3) }
+{
+    matches!(basic, Basic::Track(_, _, _))
+}
+
 // The classes of letters that two functions of truths distinguish: four at most. Where their diagram had 2 ^ 32 nodes, that would count as
 // running out of memory.
 fn distinguished(
@@ -211,9 +224,10 @@ impl Machine for Atom<'_> {
 
     ghost operand = { λ atom place. atom.arena };
 
-    ghost may = { λ atom leaves. Unit {0} };
+    ghost may = { λ atom leaves. length leaves ≡ leaf_count atom.form };
 
-    ghost merged = { λ atom leaves. Start };
+    ghost merged = { λ atom leaves. after_letter atom.form
+        (state_told (slice_index_or leaves 0 0) (slice_index_or leaves 1 0)) (slice_index_or leaves 2 0 == 1) (slice_index_or leaves 3 0 == 1) };
 
     ghost extended = { λ atom state leaves. state };
 
@@ -248,17 +262,25 @@ impl Machine for Atom<'_> {
         from: &AtomMacro,
         column: &[u32],
     ) -> Result<Option<AtomMacro>, AllocError> {
-        let to = rows::after(self.basic, *from, column[0] == 1, column[1] == 1);
-        Ok(Some(to))
+        let (holds, shifted) = (column[0] == 1, column[1] == 1);
+        Ok(Some(rows::after(self.basic, *from, holds, shifted)))
     }
 
-    // An atom goes by classes: no row of it is merged of operands, and it has none.
-    fn operands(&self, _from: &AtomMacro, _to: &mut Operands) -> Result<(), AllocError> {
-        Err(AllocError)
+    // The state is told by two leaves, and the letter by the proposition and the slot of a shift.
+    fn operands(&self, from: &AtomMacro, to: &mut Operands) -> Result<(), AllocError> {
+        to.push(0, Ref::Leaf(from.number()))?;
+        to.push(0, Ref::Leaf(from.count()))?;
+        to.push(0, self.root)?;
+        if is_shift(self.basic) {
+            to.push(0, self.slot)?;
+        }
+        Ok(())
     }
 
-    fn merge(&self, _alloc: Global, _leaves: &[u32]) -> Result<AtomMacro, AllocError> {
-        Ok(AtomMacro::Start)
+    fn merge(&self, _alloc: Global, leaves: &[u32]) -> Result<AtomMacro, AllocError> {
+        let from = AtomMacro::told(leaves[0], leaves[1]);
+        let shifted = leaves.get(3) == Some(&1);
+        Ok(rows::after(self.basic, from, leaves[2] == 1, shifted))
     }
 
     fn copy(&self, _alloc: Global, of: &AtomMacro) -> Result<AtomMacro, AllocError> {

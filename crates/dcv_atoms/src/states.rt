@@ -1,4 +1,6 @@
 // What an atom remembers of the letters that it has read.
+ghost use Rattle.std.specs.Prelude.{◌≡◌};
+ghost use Rattle.dcv_atoms.specs.Leaves.{number_of, count_of, state_told};
 
 /// What an atom remembers of the letters that it has read. An atom has those of these states that its form needs.
 #[derive(Clone, Copy, Debug, PartialEq, Eq, Hash)]
@@ -19,4 +21,49 @@ pub enum AtomMacro {
     Count(u32),
     /// So much was counted before the last letter, and this is whether the proposition holds in that.
     Lasted { count: u32, last: bool },
+}
+
+impl AtomMacro {
+    // Which of the states it is, but for what was counted.
+    pub(crate) fn number(self) -> u32
+        ensures { result ≡ number_of self }
+    {
+        match self {
+            AtomMacro::Start => 0,
+            AtomMacro::First => 1,
+            AtomMacro::Good => 2,
+            AtomMacro::Last => 3,
+            AtomMacro::Bad => 4,
+            AtomMacro::Count(_) => 5,
+            AtomMacro::Lasted { last, .. } => if last { 7 } else { 6 },
+        }
+    }
+
+    // What was counted.
+    pub(crate) fn count(self) -> u32
+        ensures { result ≡ count_of self }
+    {
+        match self {
+            AtomMacro::Count(count) | AtomMacro::Lasted { count, .. } => count,
+            _ => 0,
+        }
+    }
+
+    // The state of which these two are told.
+    pub(crate) fn told(number: u32, count: u32) -> AtomMacro
+        ensures { result ≡ state_told number count }
+    {
+        match number {
+            0 => AtomMacro::Start,
+            1 => AtomMacro::First,
+            2 => AtomMacro::Good,
+            3 => AtomMacro::Last,
+            4 => AtomMacro::Bad,
+            5 => AtomMacro::Count(count),
+            _ => AtomMacro::Lasted {
+                count,
+                last: number == 7,
+            },
+        }
+    }
 }

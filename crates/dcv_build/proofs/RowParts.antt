@@ -89,12 +89,6 @@ all_rows view count rows all so_far = record { refs = so_far.refs; behind = behi
 
 -- ---- both sides of each part
 
-pub no_sides : (arena : ArenaValue) (slot : ℕ) → AreSplit arena slot [] []
-no_sides arena slot = record {
-  refs = λ part there. absurd (omega arith);
-  sides = λ part there. absurd (omega arith);
-}
-
 pub sides_of_one_more : (arena : ArenaValue) (slot : ℕ) (old new : List Ref) (part lo hi : Ref) → AreSplit arena slot old new
     → IsRef arena lo → IsRef arena hi → slot < level_of arena lo → slot < level_of arena hi
     → ((letter : List Bool) → value_of arena part letter ≡ cond (get_or letter slot false) (value_of arena hi letter) (value_of arena lo letter))

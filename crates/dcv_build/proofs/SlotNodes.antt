@@ -62,9 +62,6 @@ module _ (view : ViewValue) (arena : IsArena view.arena) (slot : ℕ) (parts : L
 -- ---- two operands side by side
 
 module _ (one other : ViewValue) (slots : one.stored.slots ≡ other.stored.slots) where
-  pub no_slots : HasNodesBefore one other 0 0
-  no_slots = record { nodes = []; few = omega arith; all = λ state another node below second there before. absurd (omega arith) }
-
   pub no_more_than : (slot most more : ℕ) → HasNodesBefore one other slot most → most ≤ more → HasNodesBefore one other slot more
   no_more_than slot most more has within = record { nodes = has.nodes; few = omega (arith, has.few); all = has.all }
 

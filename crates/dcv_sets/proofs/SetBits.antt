@@ -213,10 +213,6 @@ pub one_more_in : (has : ℕ → Bool) (state : ℕ) → has state ≡ true → 
 one_more_in has state e =
     sym (ap (λ it. cond it (states_below has state ++ state ∷ []) (states_below has state)) e) ∙ ap (states_below has) (next_number state)
 
-pub one_more_out : (has : ℕ → Bool) (state : ℕ) → has state ≡ false → states_below has state ≡ states_below has (state + 1)
-one_more_out has state e =
-    sym (ap (λ it. cond it (states_below has state ++ state ∷ []) (states_below has state)) e) ∙ ap (states_below has) (next_number state)
-
 -- what a row's states have, with one more
 pub more_have : (P : ℕ → Type 0) (states : List ℕ) (state : ℕ) → All P states → P state → All P (states ++ state ∷ [])
 more_have P states state all one = All-append P states (state ∷ []) all (All-cons P state [] one (All-nil P))
@@ -259,12 +255,6 @@ set_ascending states is = subst (λ (listed : List ℕ). AllPairs Below listed) 
 -- without its last state, a list ascends, too
 pub front_ascends : (others : List ℕ) (last : ℕ) → AllPairs Below (others ++ last ∷ []) → AllPairs Below others
 front_ascends others last pairs = pairs_from_Ascends Below others (ascends_front others last (Ascends-from_pairs Below (others ++ last ∷ []) pairs))
-
--- ---- equal sets
-
--- the forms of two sets are one where their states are
-pub one_form : {dense other_dense : Bool} {held other : List ℕ} → IsKept dense held → IsKept other_dense other → states_kept dense held ≡ states_kept other_dense other → (dense ≡ other_dense) × (held ≡ other)
-one_form first second same = (first.form ∙ ap is_dense same ∙ sym second.form, first.one ∙ ap kept same ∙ sym second.one)
 
 -- what is left of a set's list without its last state ascends
 pub popped_ascends : {held of states : List ℕ} (others : List ℕ) (last : ℕ) → AllPairs Below held → held ≡ of → states ≡ of → states ≡ others ++ last ∷ [] → AllPairs Below others

@@ -159,7 +159,7 @@ impl StateSet {
         Ok(states)
     }
 
-    /// The set of its states and these. It takes no more memory than both have, but where all lie in place.
+    /// The set of its states and these. It takes no more memory than lists of both have, but where all lie in place.
     pub fn with(&self, alloc: Global, more: &[u32]) -> Result<StateSet, AllocError>
         ensures { IfOk result (λ set. set ≡ set_of (self.now ++ more.now)) }
     {
